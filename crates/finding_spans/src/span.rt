@@ -1,0 +1,131 @@
+// The places of nodes and bytes in a file.
+
+ghost use Rattle.std.specs.Prelude.{◌≡◌, ◌≤◌, length};
+
+use st_tree::{Decl, Node, NodeNo, SourceTree, Stmt, Unit};
+
+/// A line and a column, counted from 1. Lines count line feeds, columns bytes.
+#[derive(Clone, Copy, Debug, PartialEq, Eq)]
+pub struct Position {
+    pub line: u32,
+    pub column: u32,
+}
+
+/// A place: the first byte and the byte after the last, counted from 0, and the position of the first.
+#[derive(Clone, Copy, Debug, PartialEq, Eq)]
+pub struct Span {
+    pub start: usize,
+    pub end: usize,
+    pub line: u32,
+    pub column: u32,
+}
+
+/// The position of a byte of a text, or of the text's end.
+pub fn line_of(text: &[u8], at: usize) -> Position
+    requires text { length text.now ≤ 1048576 }
+    requires at { at ≤ length text.now }
+{
+    let before = &text[..at];
+    let mut position = Position { line: 1, column: 1 };
+    for byte in before {
+        if *byte == b'\n' {
+            position = Position {
+                line: position.line.saturating_add(1),
+                column: 1,
+            };
+        } else {
+            position.column = position.column.saturating_add(1);
+        }
+    }
+    position
+}
+
+/// The place of a node: that of the innermost declaration name, statement or unit that holds it. A declaration name holds its
+/// declaration; where there are several names, the first holds what follows them.
+pub fn place(tree: &SourceTree, node: NodeNo) -> Span {
+    match holder(tree, node) {
+        Some(found) => span_of(tree.feeds.as_slice(), found),
+        None => span_of(
+            tree.feeds.as_slice(),
+            Node {
+                number: node,
+                start: 0,
+                end: 0,
+            },
+        ),
+    }
+}
+
+/// The statement that holds a node, and its unit.
+pub fn statement_of(tree: &SourceTree, node: NodeNo) -> Option<(&Unit, &Stmt)> {
+    let unit = unit_of(tree, node)?;
+    let statement = statement_in(unit, node)?;
+    Some((unit, statement))
+}
+
+/// The innermost declaration name, statement or unit that holds the node.
+fn holder(tree: &SourceTree, node: NodeNo) -> Option<Node> {
+    let unit = unit_of(tree, node)?;
+    match statement_in(unit, node) {
+        Some(Stmt::Assign(statement, _, _)) => Some(*statement),
+        None => Some(declaration_holder(unit, node).unwrap_or(unit.node)),
+    }
+}
+
+fn unit_of(tree: &SourceTree, node: NodeNo) -> Option<&Unit> {
+    let units = tree.units.as_slice();
+    let count = units.partition_point(|unit| unit.node.number.0 <= node.0);
+    units.get(count.checked_sub(1)?)
+}
+
+fn statement_in(unit: &Unit, node: NodeNo) -> Option<&Stmt> {
+    let body = unit.body.as_slice();
+    let count = body.partition_point(|statement| match statement {
+        Stmt::Assign(place, _, _) => place.number.0 <= node.0,
+    });
+    body.get(count.checked_sub(1)?)
+}
+
+/// The declaration name that holds the node.
+fn declaration_holder(unit: &Unit, node: NodeNo) -> Option<Node> {
+    let sections = unit.sections.as_slice();
+    let count = sections.partition_point(|section| section.node.number.0 <= node.0);
+    let section = sections.get(count.checked_sub(1)?)?;
+    let decls = section.decls.as_slice();
+    let count = decls.partition_point(|decl| decl.node.number.0 <= node.0);
+    let decl = decls.get(count.checked_sub(1)?)?;
+    name_holder(decl, node)
+}
+
+/// The name of the declaration that holds the node: the name itself, else the first one.
+fn name_holder(decl: &Decl, node: NodeNo) -> Option<Node> {
+    let names = decl.names.as_slice();
+    let count = names.partition_point(|name| name.node.number.0 < node.0);
+    match names.get(count) {
+        Some(name) if name.node.number == node => Some(name.node),
+        _ => Some(names.first()?.node),
+    }
+}
+
+/// The span of a node, by the places of its file's line feeds.
+fn span_of(feeds: &[usize], node: Node) -> Span {
+    let before = feeds.partition_point(|feed| *feed < node.start);
+    let column = match before.checked_sub(1) {
+        None => node.start,
+        Some(last) => match feeds.get(last) {
+            None => node.start,
+            Some(feed) => node.start.saturating_sub(*feed).saturating_sub(1),
+        },
+    };
+    Span {
+        start: node.start,
+        end: node.end,
+        line: counted(before),
+        column: counted(column),
+    }
+}
+
+/// A number that counts from 0 as one that counts from 1.
+fn counted(number: usize) -> u32 {
+    u32::try_from(number).unwrap_or(u32::MAX).saturating_add(1)
+}

@@ -1,0 +1,4 @@
+pub mod Kinds
+pub mod Letters
+pub mod Types
+pub mod Words

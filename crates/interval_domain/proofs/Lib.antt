@@ -1,0 +1,5 @@
+pub mod Bounds
+pub mod Laws
+pub mod Rounding
+pub mod Searching
+pub mod Sets

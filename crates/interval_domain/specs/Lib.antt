@@ -1,0 +1,4 @@
+pub mod Grid
+pub mod Interval
+pub mod Operators
+pub mod Stored

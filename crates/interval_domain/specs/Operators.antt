@@ -1,0 +1,75 @@
+-- Operators on intervals, after interval analysis: the raw result is the least interval of all whole-number results, the
+-- result its meet with the range of the type. The code computes in 128 bits; here numbers have no limit.
+use Rattle.std.specs.Prelude.{◌-◌, ◌^◌, Bool, not, ℤ, pos, ◌+ℤ◌, ◌-ℤ◌, neg_ℤ}
+use Rattle.std.specs.Int.{int_max, int_min}
+use Rattle.iec_tables.specs.Types as types
+use Rattle.iec_tables.specs.declared.elem.Elem.{Elem}
+use Rattle.iec_tables.specs.declared.kind.Kind.{Kind}
+use Rattle.iec_tables.specs.declared.kind.Kind.TheVariants.{ZeroDivisor, Index, Subrange, Overflow}
+use Rattle.interval_domain.specs.Interval.{Interval, Empty, Span, Holds, holds, IsWithin, is_within, meet}
+
+-- A size past 2^127 - 1 is kept at 2^127 - 1, with the sign. This profile's limit of bounds.
+abbrev pub kept : ℤ → ℤ
+kept z = int_max (neg_ℤ (pos (2 ^ 127 - 1))) (int_min (pos (2 ^ 127 - 1)) z)
+
+-- the range of a type
+abbrev pub range_of : Elem → Interval
+range_of t = Span (types.low_of t) (types.high_of t)
+
+-- the whole-number operators
+abbrev pub sum_of : ℤ → ℤ → ℤ
+sum_of x y = x +ℤ y
+
+abbrev pub difference_of : ℤ → ℤ → ℤ
+difference_of x y = x -ℤ y
+
+-- [a, b] + [c, d] is [a + c, b + d]
+abbrev pub add_raw : Interval → Interval → Interval
+add_raw Empty j = Empty
+add_raw (Span a b) Empty = Empty
+add_raw (Span a b) (Span c d) = Span (kept (sum_of a c)) (kept (sum_of b d))
+
+-- [a, b] - [c, d] is [a - d, b - c]
+abbrev pub sub_raw : Interval → Interval → Interval
+sub_raw Empty j = Empty
+sub_raw (Span a b) Empty = Empty
+sub_raw (Span a b) (Span c d) = Span (kept (difference_of a d)) (kept (difference_of b c))
+
+-- the raw result met with the range of the type
+abbrev pub typed : Elem → Interval → Interval
+typed t raw = meet raw (range_of t)
+
+-- ---- the laws of an operator: `op` is the one on numbers, `a` and `b` are the operands
+
+-- each whole-number result of numbers that the operands hold, kept, is in `raw`
+abbrev pub HoldsResults : (ℤ → ℤ → ℤ) → Interval → Interval → Interval → Type 0
+HoldsResults op a b raw = (x y : ℤ) → Holds a x → Holds b y → Holds raw (kept (op x y))
+
+-- no smaller interval holds them
+abbrev pub IsLeast : (ℤ → ℤ → ℤ) → Interval → Interval → Interval → Type 0
+IsLeast op a b raw = (j : Interval) → HoldsResults op a b j → IsWithin raw j
+
+-- each whole-number result that lies in the type is in `out`
+abbrev pub HoldsTyped : (ℤ → ℤ → ℤ) → Elem → Interval → Interval → Interval → Type 0
+HoldsTyped op t a b out = (x y : ℤ) → Holds a x → Holds b y → Holds (range_of t) (op x y) → Holds out (op x y)
+
+-- larger operands give no smaller interval
+abbrev pub GrowsWith : (Interval → Interval → Interval) → Interval → Interval → Interval → Type 0
+GrowsWith row a b out = (c d : Interval) → IsWithin a c → IsWithin b d → IsWithin out (row c d)
+
+-- all of them, for an operator whose raw results are `row`
+pub record MeetsLaws (op : ℤ → ℤ → ℤ) (row : Interval → Interval → Interval) (t : Elem) (a b raw out : Interval) : Type 0 where
+  pub held : HoldsResults op a b raw
+  pub least : IsLeast op a b raw
+  pub held_typed : HoldsTyped op t a b out
+  pub larger : GrowsWith row a b raw
+  pub larger_typed : GrowsWith (λ c d. typed t (row c d)) a b out
+
+-- ---- alarms
+
+-- A division is alarmed where its divisor may be 0, anything else where the value may leave what is allowed.
+abbrev pub is_alarmed : Kind → Interval → Interval → Bool
+is_alarmed ZeroDivisor value allowed = holds value (pos 0)
+is_alarmed Index value allowed = not (is_within value allowed)
+is_alarmed Subrange value allowed = not (is_within value allowed)
+is_alarmed Overflow value allowed = not (is_within value allowed)

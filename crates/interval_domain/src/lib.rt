@@ -1,0 +1,6 @@
+// Intervals of whole numbers, the operators on them, and the grid to whose numbers bounds are rounded.
+#![tactic(auto)]
+
+pub mod grid;
+pub mod interval;
+pub mod operators;

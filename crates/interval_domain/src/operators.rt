@@ -1,0 +1,104 @@
+// Operators on intervals, and the alarms of their results.
+ghost use Rattle.std.specs.Prelude.{◌≡◌};
+ghost use Rattle.interval_domain.specs.Operators as rows;
+
+use crate::interval::{Interval, meet};
+use iec_tables::elem::{Elem, high, low};
+use iec_tables::kind::Kind;
+
+/// What an operator gives: the least interval of all whole-number results, and its part in the range of the type.
+#[derive(Clone, Copy, Debug, PartialEq, Eq)]
+pub struct Out {
+    pub raw: Interval,
+    pub result: Interval,
+}
+
+/// The greatest size of a bound.
+const LIMIT: i128 = i128::MAX;
+
+/// The range of a type.
+pub fn range_of(t: Elem) -> Interval
+    ensures { result ≡ rows.range_of t }
+{
+    Interval::of(low(t), high(t))
+}
+
+/// The sum of two intervals, for the type of the expression.
+pub fn add(t: Elem, a: Interval, b: Interval) -> Out
+    ensures raw { result.raw ≡ rows.add_raw a b }
+    ensures result { result.result ≡ rows.typed t (rows.add_raw a b) }
+    ensures laws { rows.MeetsLaws rows.sum_of rows.add_raw t a b result.raw result.result }
+{
+    typed(t, add_bounds(a, b))
+}
+
+/// The difference of two intervals, for the type of the expression.
+pub fn sub(t: Elem, a: Interval, b: Interval) -> Out
+    ensures raw { result.raw ≡ rows.sub_raw a b }
+    ensures result { result.result ≡ rows.typed t (rows.sub_raw a b) }
+    ensures laws { rows.MeetsLaws rows.difference_of rows.sub_raw t a b result.raw result.result }
+{
+    typed(t, sub_bounds(a, b))
+}
+
+/// Whether a value raises an alarm of that kind: for a zero divisor where the divisor may be 0, whatever is allowed, else
+/// where the value may leave what is allowed.
+pub fn alarm(kind: Kind, value: Interval, allowed: Interval) -> bool
+    ensures { result ≡ rows.is_alarmed kind value allowed }
+{
+    match kind {
+        Kind::ZeroDivisor => value.holds(0),
+        Kind::Index | Kind::Subrange | Kind::Overflow => !value.is_within(allowed),
+    }
+}
+
+fn typed(t: Elem, raw: Interval) -> Out
+    ensures raw { result.raw ≡ raw }
+    ensures result { result.result ≡ rows.typed t raw }
+{
+    Out {
+        raw,
+        result: meet(raw, range_of(t)),
+    }
+}
+
+fn add_bounds(a: Interval, b: Interval) -> Interval
+    ensures value { result ≡ rows.add_raw a b }
+    ensures least { rows.IsLeast rows.sum_of a b result }
+{
+    match (a.bounds(), b.bounds()) {
+        (Some((a, b)), Some((c, d))) => Interval::of(kept_sum(a, c), kept_sum(b, d)),
+        _ => Interval::empty(),
+    }
+}
+
+fn sub_bounds(a: Interval, b: Interval) -> Interval
+    ensures value { result ≡ rows.sub_raw a b }
+    ensures least { rows.IsLeast rows.difference_of a b result }
+{
+    match (a.bounds(), b.bounds()) {
+        (Some((a, b)), Some((c, d))) => Interval::of(kept_difference(a, d), kept_difference(b, c)),
+        _ => Interval::empty(),
+    }
+}
+
+// The number, kept in the limit of bounds.
+pub(crate) fn kept(x: i128) -> i128
+    ensures { result ≡ rows.kept x }
+{
+    x.max(-LIMIT)
+}
+
+// The sum, kept in the limit of bounds.
+pub(crate) fn kept_sum(x: i128, y: i128) -> i128
+    ensures { result ≡ rows.kept (rows.sum_of x y) }
+{
+    x.saturating_add(y).max(-LIMIT)
+}
+
+// The difference, kept in the limit of bounds.
+pub(crate) fn kept_difference(x: i128, y: i128) -> i128
+    ensures { result ≡ rows.kept (rows.difference_of x y) }
+{
+    x.saturating_sub(y).max(-LIMIT)
+}

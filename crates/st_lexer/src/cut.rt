@@ -1,0 +1,43 @@
+// The tokens of a whole text.
+
+ghost use Rattle.std.specs.Prelude.{◌≡◌, ◌≤◌, length, IfOk};
+
+use crate::front::{Class, class_of, cut_front};
+use std::alloc::{AllocError, Global};
+use token_grammar::{Token, Tokens};
+
+/// Why a text isn't cut.
+#[derive(Clone, Copy, Debug, PartialEq, Eq)]
+pub enum LexFault {
+    NoMemory,
+}
+
+impl From<AllocError> for LexFault {
+    fn from(_: AllocError) -> Self {
+        LexFault::NoMemory
+    }
+}
+
+/// The tokens of the text, in its order. White space (space, tab, carriage return, line feed) stands between them.
+pub fn tokens<'t>(alloc: Global, text: &'t [u8]) -> Result<Tokens<'t>, LexFault>
+    ensures { IfOk result (λ tokens. tokens.text.now ≡ text.now) }
+{
+    let mut list = Vec::new(alloc);
+    let mut at = 0;
+    'cut: while at < text.len() {
+        if let Class::White = class_of(text[at]) {
+            at += 1;
+        } else {
+            let front = cut_front(&text[at..]);
+            let end = at + front.length;
+            list.push(Token {
+                kind: front.kind,
+                start: at,
+                end,
+            })
+            .map_err(AllocError::from)?;
+            at = end;
+        }
+    }
+    Ok(Tokens { text, list })
+}

@@ -1,0 +1,8 @@
+//! Tokens: the one cut of a text.
+#![tactic(auto)]
+
+mod cut;
+mod front;
+
+
+pub use cut::{LexFault, tokens};

@@ -1,0 +1,33 @@
+-- The causes and the completeness follow from what the work and the writing ensure.
+use Rattle.station_cli.specs.Run.{out_of_memory}
+use Rattle.station_cli.proofs.Complete.{completes, misused_ends, above_ends}
+use Rattle.station_cli.proofs.run.run.Goals as goal
+use Rattle.std.proofs.Common.{refl, map}
+use Rattle.std.specs.Prelude.{string_bytes}
+
+pub returns-in-Ok-clause-complete : goal.returns-in-Ok-clause-complete
+returns-in-Ok-clause-complete g c = completes _ c.in-Ok.ensures.work (rw c.deref.ensures.value at c.write_line.ensures)
+
+pub returns-in-Ok-clause-misused : goal.returns-in-Ok-clause-misused
+returns-in-Ok-clause-misused g c = misused_ends (map string_bytes c.args.words.now) c.in-Ok.ensures.work (rw c.deref.ensures.value at c.write_line.ensures)
+
+pub returns-in-Ok-clause-above : goal.returns-in-Ok-clause-above
+returns-in-Ok-clause-above g c = above_ends _ c.in-Ok.ensures.work (rw c.deref.ensures.value at c.write_line.ensures)
+
+pub returns-in-Err-clause-complete : goal.returns-in-Err-clause-complete
+returns-in-Err-clause-complete g c =
+    completes _ {new = record { files = g.F.Files.view c.work.new.files }}
+    (record { course = out_of_memory; cause = tt; status_is = refl; text_is = refl })
+    c.write_line-in-Err.ensures
+
+pub returns-in-Err-clause-misused : goal.returns-in-Err-clause-misused
+returns-in-Err-clause-misused g c =
+    misused_ends (map string_bytes c.args.words.now) {old = record { files = g.F.Files.view c.args.files.now }} {new = record { files = g.F.Files.view c.work.new.files }}
+    (record { course = out_of_memory; cause = tt; status_is = refl; text_is = refl })
+    c.write_line-in-Err.ensures
+
+pub returns-in-Err-clause-above : goal.returns-in-Err-clause-above
+returns-in-Err-clause-above g c =
+    above_ends _ {new = record { files = g.F.Files.view c.work.new.files }}
+    (record { course = out_of_memory; cause = tt; status_is = refl; text_is = refl })
+    c.write_line-in-Err.ensures

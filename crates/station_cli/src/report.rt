@@ -1,0 +1,199 @@
+// The report on a file: its text is cut into tokens, parsed, planned and analysed.
+
+ghost use Rattle.std.specs.Prelude.{◌≡◌, ◌+◌, ◌≤◌, IfOk, length};
+ghost use Rattle.station_cli.specs.Reports.{IsCounted};
+ghost use Rattle.station_cli.specs.Parsing.{IsOneUnit};
+
+use cycle_analysis::{Solution, solve};
+use finding_spans::{
+    Alarm, AlarmCount, Entry, RangeLine, Refusal, Report, Verdict, line_of, place, statement_of,
+};
+use interval_domain::grid::Grid;
+use interval_domain::interval::Interval;
+use sqlite_items::Items;
+use st_expr::{ParseFault, first_form};
+use st_lexer::{LexFault, tokens};
+use st_tree::{CellInfo, Component, FaultCode, Hit, SourceTree, Stmt};
+use station_ports::outside::NoMemory;
+use station_ports::steps::Steps;
+use station_ports::texts::{FileText, Name};
+use std::alloc::{AllocError, Global};
+use std::sync::ledger::Ledger;
+use task_config::plan;
+
+/// The report on a file of that name.
+pub(crate) fn report_on<L: Ledger>(
+    alloc: Global,
+    name: &str,
+    text: &FileText,
+    steps: &mut Steps<L>,
+) -> Result<Report, NoMemory>
+    ensures { IfOk result (λ report. IsCounted report) }
+{
+    match tree_of(alloc, text, steps)? {
+        Parsed::Tree(tree) => analysed(alloc, name, &tree, steps),
+        Parsed::Fault(fault) => Ok(refused(alloc, name, text, fault)?),
+    }
+}
+
+/// What a text is parsed to.
+#[derive(Drop)]
+enum Parsed {
+    Tree(SourceTree),
+    Fault(Fault),
+}
+
+/// A fault and its place in bytes.
+#[derive(Clone, Copy)]
+struct Fault {
+    code: FaultCode,
+    at: usize,
+}
+
+/// The tree of a text, or the fault for which it is refused.
+fn tree_of<L: Ledger>(
+    alloc: Global,
+    text: &FileText,
+    steps: &mut Steps<L>,
+) -> Result<Parsed, NoMemory>
+    ensures { IfOk result IsOneUnit }
+{
+    let tokens = match tokens(alloc, text.bytes()) {
+        Ok(tokens) => tokens,
+        Err(LexFault::NoMemory) => return Err(NoMemory),
+    };
+    match first_form(alloc, &tokens, steps) {
+        Ok(tree) => Ok(Parsed::Tree(tree)),
+        Err(ParseFault::At { code, at }) => Ok(Parsed::Fault(Fault { code, at })),
+        Err(ParseFault::NoMemory) => Err(NoMemory),
+    }
+}
+
+/// The report on a file that is refused for a fault at a byte.
+fn refused(
+    alloc: Global,
+    name: &str,
+    text: &FileText,
+    fault: Fault,
+) -> Result<Report, AllocError>
+    ensures { IfOk result (λ report. IsCounted report) }
+{
+    let bytes = text.bytes();
+    let position = line_of(bytes, fault.at.min(bytes.len()));
+    Ok(Report {
+        verdict: Verdict::Refused(Refusal {
+            file: name_of(alloc, name.as_bytes())?,
+            line: position.line,
+            column: position.column,
+            code: fault.code,
+        }),
+        alarms: Items::new(alloc),
+        ranges: Items::new(alloc),
+        open_count: 0,
+        waived_count: 0,
+    })
+}
+
+/// The report on a file that is analysed.
+fn analysed<L: Ledger>(
+    alloc: Global,
+    name: &str,
+    tree: &SourceTree,
+    steps: &mut Steps<L>,
+) -> Result<Report, NoMemory>
+    requires { length tree.now.units ≡ 1 }
+    ensures { IfOk result (λ report. IsCounted report) }
+{
+    let component = plan(alloc, tree)?;
+    let grid = Grid::of(alloc, component.literals.as_slice())?;
+    let solution = solve(alloc, &component, &grid, steps)?;
+    let alarms = alarm_entries(alloc, name, tree, &solution.alarms)?;
+    let ranges = range_lines(alloc, &component, &solution)?;
+    let count = alarms.len() as u64;
+    Ok(Report {
+        verdict: if count == 0 {
+            Verdict::Free
+        } else {
+            Verdict::Alarms(AlarmCount { count })
+        },
+        alarms,
+        ranges,
+        open_count: count,
+        waived_count: 0,
+    })
+}
+
+/// The alarms with their units, subjects and places.
+fn alarm_entries(
+    alloc: Global,
+    name: &str,
+    tree: &SourceTree,
+    hits: &[Hit],
+) -> Result<Items<Entry<Alarm>>, AllocError> {
+    let mut entries = Items::new(alloc);
+    for hit in hits {
+        let span = place(tree, hit.node);
+        entries.push(Entry {
+            item: alarm_of(alloc, tree, *hit)?,
+            file: name_of(alloc, name.as_bytes())?,
+            line: span.line,
+            column: span.column,
+        })?;
+    }
+    Ok(entries)
+}
+
+/// An alarm under its unit and the first name of the path that its statement assigns.
+fn alarm_of(alloc: Global, tree: &SourceTree, hit: Hit) -> Result<Alarm, AllocError> {
+    let (unit, subject) = match statement_of(tree, hit.node) {
+        Some((unit, Stmt::Assign(_, target, _))) => {
+            (unit.name.name.bytes(), target.root.name.bytes())
+        }
+        None => (b"".as_slice(), b"".as_slice()),
+    };
+    Ok(Alarm {
+        kind: hit.kind,
+        unit: name_of(alloc, unit)?,
+        subject: name_of(alloc, subject)?,
+        node: hit.node,
+        file: hit.file,
+        low: hit.low,
+        high: hit.high,
+    })
+}
+
+/// The ranges of the cells: those that are shared first, then those of the tasks.
+fn range_lines(
+    alloc: Global,
+    component: &Component,
+    solution: &Solution,
+) -> Result<Items<RangeLine>, AllocError> {
+    let mut lines = Items::new(alloc);
+    add_lines(alloc, component.shared.as_slice(), &solution.ranges.shared, &mut lines)?;
+    for task in component.tasks.as_slice() {
+        add_lines(alloc, task.cells.as_slice(), &solution.ranges.own, &mut lines)?;
+    }
+    Ok(lines)
+}
+
+/// A line for each of these cells.
+fn add_lines(
+    alloc: Global,
+    cells: &[CellInfo],
+    ranges: &[Interval],
+    lines: &mut Items<RangeLine>,
+) -> Result<(), AllocError> {
+    for (cell, range) in cells.iter().zip(ranges) {
+        let (low, high) = range.bounds().unwrap_or((cell.start, cell.start));
+        lines.push(RangeLine {
+            name: name_of(alloc, cell.path.bytes())?,
+            low,
+            high,
+        })?;
+    }
+    Ok(())
+}
+
+fn name_of(alloc: Global, bytes: &[u8]) -> Result<Name, AllocError> {
+    Ok(Name::from_vec(bytes.to_vec(alloc)?))
+}

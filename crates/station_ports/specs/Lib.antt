@@ -1,0 +1,4 @@
+pub mod Views
+pub mod Calls
+pub mod Faults
+pub mod Memory

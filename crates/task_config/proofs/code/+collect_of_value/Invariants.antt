@@ -1,0 +1,10 @@
+-- The expression that is still to be written out is no deeper than the whole.
+use Rattle.std.proofs.Common.{◌≤◌}
+use Rattle.st_tree.specs.declared.tree.Expr.{size-Expr}
+use Rattle.task_config.proofs.code.+collect_of_value.Given as goal
+
+abbrev pub decreases-collect_of_value : goal.decreases-collect_of_value
+decreases-collect_of_value l = goal.size-collect_of_value l
+
+abbrev pub invariant-loop-value : goal.invariant-loop-value
+invariant-loop-value l = size-Expr l.value ≤ size-Expr l.fn.whole

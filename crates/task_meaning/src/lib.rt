@@ -1,0 +1,2 @@
+//! The meaning of the code of tasks: its steps, its faults and its runs.
+#![tactic(auto)]
