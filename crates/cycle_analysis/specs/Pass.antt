@@ -12,7 +12,7 @@ use Rattle.st_tree.specs.declared.code.Cell.TheVariants.{Own, Shared}
 use Rattle.st_tree.specs.declared.code.Operation.{Operation}
 use Rattle.st_tree.specs.declared.tree.Operator.{Operator}
 use Rattle.st_tree.specs.declared.tree.Operator.TheVariants.{Add, Subtract}
-use Rattle.st_tree.specs.declared.node.NodeNo.{NodeNo}
+use Rattle.st_tree.specs.declared.node.Site.{Site}
 use Rattle.st_tree.specs.Code.{Instructions, Done, Literal, Read, Operate, Write}
 
 -- ---- lists of intervals, empty past their end
@@ -47,7 +47,7 @@ interval_of (Of cell i) = i
 -- what a pass tells
 pub data Entry : Type 0 where
   Wrote : Cell → Interval → Entry
-  Alarm : Kind → NodeNo → Interval → Entry
+  Alarm : Kind → Site → Interval → Entry
 
 -- what a pass is given: what the other tasks write to each shared cell
 pub record Rely : Type 0 where
@@ -92,7 +92,7 @@ raw_of Subtract i j = sub_raw i j
 
 -- an alarm where the raw result leaves the type
 abbrev pub operation_log : Operation → Interval → List Entry
-operation_log o raw = if is_alarmed Overflow raw (range_of o.elem) then Alarm Overflow o.node raw ∷ [] else []
+operation_log o raw = if is_alarmed Overflow raw (range_of o.elem) then Alarm Overflow o.site raw ∷ [] else []
 
 abbrev pub operation_value : Operation → Interval → Value
 operation_value o raw = Plain (typed o.elem raw)
@@ -121,10 +121,10 @@ pass rely (Read cell rest) stack s =
     pass rely rest (read_value rely cell s ∷ stack) (unless_empty (interval_of (read_value rely cell s)) s)
 pass rely (Operate o rest) stack s =
     with_top stack (λ right below. with_top below (λ left under.
-        let raw = raw_of o.operator (interval_of left) (interval_of right) in
-        after (log_at s (operation_log o raw))
-        (pass rely rest (operation_value o raw ∷ under) (unless_empty (typed o.elem raw) s))))
+    let raw = raw_of o.operator (interval_of left) (interval_of right) in
+    after (log_at s (operation_log o raw))
+    (pass rely rest (operation_value o raw ∷ under) (unless_empty (typed o.elem raw) s))))
 pass rely (Write cell rest) stack s =
     with_top stack (λ v below.
-        after (log_at s (Wrote cell (interval_of v) ∷ []))
-        (pass rely rest below (assigned cell (interval_of v) s)))
+    after (log_at s (Wrote cell (interval_of v) ∷ []))
+    (pass rely rest below (assigned cell (interval_of v) s)))

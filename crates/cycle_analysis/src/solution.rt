@@ -2,8 +2,8 @@
 
 ghost use Rattle.std.specs.Prelude.{◌≡◌, length};
 
-use crate::task_pass::{Point, Told, pass};
 use crate::row::Row;
+use crate::task_pass::{Point, Told, pass};
 use interval_domain::grid::Grid;
 use interval_domain::interval::{Interval, join};
 use st_tree::{CellInfo, Component, Hit, TaskCode};
@@ -62,7 +62,7 @@ fn solve_task<L: Ledger>(
     let mut ranges = starts;
     ranges.join_all(&writes);
     let mut alarms = told.alarms;
-    alarms.sort_unstable_by_key(|hit| (hit.node.0, hit.kind.code()));
+    alarms.sort_unstable_by_key(|hit| (hit.site.file, hit.site.node.0, hit.kind.code()));
     Ok(Solution {
         head,
         writes,

@@ -92,19 +92,14 @@ fn read(point: &Point, during: &[Interval], cell: Cell) -> Value {
     }
 }
 
-fn operate(
-    operation: Operation,
-    point: &mut Point,
-    told: &mut Told,
-) -> Result<bool, AllocError> {
+fn operate(operation: Operation, point: &mut Point, told: &mut Told) -> Result<bool, AllocError> {
     let right = pop(point);
     let left = pop(point);
     let out = result_of(operation, left, right);
     if alarm(Kind::Overflow, out.raw, range_of(operation.elem)) {
         if let Some((low, high)) = out.raw.bounds() {
             told.alarms.push(Hit {
-                file: 0,
-                node: operation.node,
+                site: operation.site,
                 kind: Kind::Overflow,
                 low,
                 high,

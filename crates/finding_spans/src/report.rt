@@ -2,7 +2,7 @@
 
 use iec_tables::kind::Kind;
 use sqlite_items::Items;
-use st_tree::{FaultCode, NodeNo};
+use st_tree::{FaultCode, Site};
 use station_ports::texts::Name;
 
 /// The number of alarms of a report.
@@ -28,15 +28,14 @@ pub enum Verdict {
     Refused(Refusal),
 }
 
-/// A possible run-time fault: its kind, the unit and the subject that it is reported under, its node in its file (files count from
-/// 0), and the hull of the values that may bring it about.
+/// A possible run-time fault: its kind, the unit and the subject that it is reported under (with ASCII letters raised), its node, and
+/// the hull of the values that may bring it about.
 #[derive(Drop)]
 pub struct Alarm {
     pub kind: Kind,
     pub unit: Name,
     pub subject: Name,
-    pub node: NodeNo,
-    pub file: u16,
+    pub site: Site,
     pub low: i128,
     pub high: i128,
 }
@@ -50,7 +49,7 @@ pub struct Entry<T> {
     pub column: u32,
 }
 
-/// The range of a variable.
+/// The range of a variable, under its path with ASCII letters raised.
 #[derive(Drop)]
 pub struct RangeLine {
     pub name: Name,

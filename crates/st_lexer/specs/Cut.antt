@@ -1,11 +1,12 @@
 -- The one cut of a text into the tokens of the first form. Source: the lexical elements of the standard; what is no token of the first
 -- form is foreign. The code reads the bytes once from left to right.
-use Rattle.std.specs.Prelude.{◌≡◌, ◌⊎◌, ℕ, ◌+◌, ◌-◌, ◌*◌, ◌≤◌, ◌<◌, Bool, true, false, not, ◌&&◌, ◌||◌, nat_eq, bytes_eq, List, [], ◌∷◌, ◌++◌, length, map, codes, Option, Some, None}
-use Rattle.std.specs.List.{list_all, list_any, fold}
+use Rattle.std.specs.Prelude.{◌≡◌, ◌⊎◌, ℕ, ◌+◌, ◌≤◌, ◌<◌, Bool, true, false, not, ◌&&◌, ◌||◌, nat_eq, bytes_eq, List, [], ◌∷◌, ◌++◌, length, map, codes, Option, Some, None}
+use Rattle.std.specs.List.{list_all, list_any}
 use Rattle.iec_tables.specs.Letters.{raised}
 use Rattle.token_grammar.specs.declared.token.TokenKind.{TokenKind}
 use Rattle.token_grammar.specs.declared.token.TokenKind.TheVariants.{Program, EndProgram, Var, EndVar, Int, Name, Number, Becomes, Colon, Comma, Semicolon, Plus, Minus, Foreign}
 use Rattle.token_grammar.specs.declared.token.Token.{Token}
+use Rattle.token_grammar.specs.Texts.{number_of}
 use Rattle.st_lexer.specs.Bytes.{is_white, is_letter, is_digit, in_word}
 use Rattle.iec_tables.specs.Words.{keyword_texts}
 
@@ -36,10 +37,6 @@ pub record IsName (text : List ℕ) : Type 0 where
   pub formed : is_well_formed text ≡ true
   pub free : is_reserved (map raised text) ≡ false
 
--- the value of decimal digits
-abbrev pub value_of : List ℕ → ℕ
-value_of digits = fold (λ value digit. value * 10 + (digit - 48)) 0 digits
-
 -- `#` or `.`
 abbrev pub goes_on : ℕ → Bool
 goes_on byte = nat_eq byte 35 || nat_eq byte 46
@@ -47,7 +44,7 @@ goes_on byte = nat_eq byte 35 || nat_eq byte 46
 -- A number is decimal digits of a value up to 32767, and neither `#` nor `.` follows.
 pub record IsNumber (text rest : List ℕ) : Type 0 where
   pub digits : list_all is_digit text ≡ true
-  pub value : value_of text ≤ 32767
+  pub value : number_of text ≤ 32767
   pub ended : begins goes_on rest ≡ false
 
 -- a byte that is a mark, or begins one
@@ -76,16 +73,16 @@ pub record IsForeignByte (byte : ℕ) : Type 0 where
   pub no_mark : is_mark byte ≡ false
   pub no_white : is_white byte ≡ false
 
-abbrev pub IsKeyword : List ℕ → List ℕ → List ℕ → Type 0
-IsKeyword word text rest = IsWord text rest × (map raised text ≡ word)
+abbrev pub IsKeyword : TokenKind → List ℕ → List ℕ → Type 0
+IsKeyword kind text rest = IsWord text rest × (keyword kind ≡ Some (map raised text))
 
 -- The text of a token of that kind, before the rest.
 abbrev pub IsText : TokenKind → List ℕ → List ℕ → Type 0
-IsText Program text rest = IsKeyword (codes "PROGRAM") text rest
-IsText EndProgram text rest = IsKeyword (codes "END_PROGRAM") text rest
-IsText Var text rest = IsKeyword (codes "VAR") text rest
-IsText EndVar text rest = IsKeyword (codes "END_VAR") text rest
-IsText Int text rest = IsKeyword (codes "INT") text rest
+IsText Program text rest = IsKeyword Program text rest
+IsText EndProgram text rest = IsKeyword EndProgram text rest
+IsText Var text rest = IsKeyword Var text rest
+IsText EndVar text rest = IsKeyword EndVar text rest
+IsText Int text rest = IsKeyword Int text rest
 IsText Name text rest = IsWord text rest × IsName text
 IsText Number text rest = IsWord text rest × IsNumber text rest
 IsText Becomes text rest = text ≡ codes ":="

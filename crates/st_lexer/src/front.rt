@@ -128,7 +128,11 @@ fn word_kind(word: &[u8]) -> TokenKind {
 
 /// Whether the word, its letters raised, is this text.
 fn is_same(word: &[u8], text: &[u8]) -> bool {
-    word.len() == text.len() && word.iter().zip(text).all(|(byte, letter)| raise(*byte) == *letter)
+    word.len() == text.len()
+        && word
+            .iter()
+            .zip(text)
+            .all(|(byte, letter)| raise(*byte) == *letter)
 }
 
 /// Whether no two underscores stand in a row in the word and none at its end.

@@ -4,5 +4,4 @@
 mod cut;
 mod front;
 
-
 pub use cut::{LexFault, tokens};

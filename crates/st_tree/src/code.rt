@@ -1,7 +1,7 @@
 // The code of a task: a core language over cells, in which every name is resolved and every part stands in the order in which it
 // is taken.
 
-use crate::node::NodeNo;
+use crate::node::Site;
 use crate::tree::Operator;
 use iec_tables::elem::Elem;
 use sqlite_items::Items;
@@ -17,7 +17,7 @@ pub enum Cell {
 /// An operator at its node, with the type of its result.
 #[derive(Clone, Copy, Debug, PartialEq, Eq)]
 pub struct Operation {
-    pub node: NodeNo,
+    pub site: Site,
     pub elem: Elem,
     pub operator: Operator,
 }

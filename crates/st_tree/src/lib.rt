@@ -10,7 +10,7 @@ mod tree;
 pub use code::{Cell, CellInfo, Code, Component, Number, Operation, TaskCode};
 pub use fault::FaultCode;
 pub use hit::Hit;
-pub use node::{Node, NodeNo};
+pub use node::{Node, NodeNo, Site};
 pub use tree::{
     Decl, Expr, Identifier, Literal, Operator, Path, Section, SourceTree, Spec, Stmt, Unit,
 };

@@ -1,4 +1,5 @@
--- What a reader of the program's output and status may rely on. Source: this profile.
+-- What a reader of the program's output and status may rely on. Source: this profile. These are consequences of the course that a call
+-- takes; the code has no part for them.
 use Rattle.std.specs.Prelude.{◌≡◌, ◌⊎◌, ◌<◌, ℕ, List, Option, Some, length, true}
 use Rattle.std.specs.Io.KnownBytes.{Appends}
 use Rattle.station_ports.specs.Calls.{IsTooLong, Rose}

@@ -1,5 +1,6 @@
 pub mod Words
 pub mod Reports
+pub mod Report
 pub mod Parsing
 pub mod Run
 pub mod Causes

@@ -1,4 +1,4 @@
--- What the text of a file is parsed to.
+-- What the text of a file is parsed to: a form of the code between its steps, without a source of its own.
 use Rattle.std.specs.Prelude.{◌≡◌, length}
 use Rattle.station_cli.specs.declared.report.Parsed.{Parsed}
 use Rattle.station_cli.specs.declared.report.Parsed.TheVariants.{Tree, Fault}

@@ -1,16 +1,16 @@
--- What a report's counts say of its lines. Source: this profile.
-use Rattle.std.specs.Prelude.{◌≡◌, ℕ, length}
+-- What the verdict and the counts of a report say of its lines. Source: this profile. The code counts the lines that it has made.
+use Rattle.std.specs.Prelude.{◌≡◌, ◌<◌, ◌+◌, ℕ, length}
 use Rattle.finding_spans.specs.declared.report.Verdict.{Verdict}
 use Rattle.finding_spans.specs.declared.report.Verdict.TheVariants.{Free, Alarms, Refused}
 use Rattle.finding_spans.specs.declared.report.Report.{Report}
 
--- the number of alarms that a verdict tells; a refused file has none
-abbrev pub told : Verdict → ℕ
-told Free = 0
-told (Alarms alarms) = alarms.count
-told (Refused refusal) = 0
+-- FREE is said where there are no alarms, ALARMS with their number where there are some; a refused text has neither alarms nor ranges.
+abbrev pub Fits : Verdict → (alarms ranges : ℕ) → Type 0
+Fits Free alarms ranges = alarms ≡ 0
+Fits (Alarms told) alarms ranges = (told.count ≡ alarms) × (0 < alarms)
+Fits (Refused refusal) alarms ranges = (alarms ≡ 0) × (ranges ≡ 0)
 
--- The verdict tells the number of the alarms, and each is open.
+-- The verdict fits the lines, and each alarm is open or waived.
 pub record IsCounted (report : Report) : Type 0 where
-  pub verdict : told report.verdict ≡ length report.alarms
-  pub counted : report.open_count ≡ length report.alarms
+  pub verdict : Fits report.verdict (length report.alarms) (length report.ranges)
+  pub counted : report.open_count + report.waived_count ≡ length report.alarms

@@ -1,5 +1,5 @@
 -- What a call of the program does. A call takes one course: each has its cause, the status it ends with and the bytes it writes.
--- A further command adds its courses, and a further object of the outside its field of World; the cases that stand don't change.
+-- A further command adds its courses, and a further object of the outside its field of World.
 -- Source: this profile. The code works through the words, the file, the report and the put in this order.
 use Rattle.std.specs.Prelude.{◌≡◌, ℕ, ◌++◌, List, Option, Some, None, Result, Ok, Err, ⊤, codes, length, Bool, true, false}
 use Rattle.station_ports.specs.Views.{FilesView, PortView}
@@ -23,7 +23,7 @@ abbrev pub max_file : ℕ
 max_file = 1048576
 
 pub data Course : Type 0 where
-  -- the words ask for nothing
+  -- the words are no defined command line
   misused : Course
   -- a file was read, and this report was made of it
   checked : (name text : List ℕ) → (made : Report) → Course

@@ -70,12 +70,7 @@ fn tree_of<L: Ledger>(
 }
 
 /// The report on a file that is refused for a fault at a byte.
-fn refused(
-    alloc: Global,
-    name: &str,
-    text: &FileText,
-    fault: Fault,
-) -> Result<Report, AllocError>
+fn refused(alloc: Global, name: &str, text: &FileText, fault: Fault) -> Result<Report, AllocError>
     ensures { IfOk result (λ report. IsCounted report) }
 {
     let bytes = text.bytes();
@@ -132,7 +127,7 @@ fn alarm_entries(
 ) -> Result<Items<Entry<Alarm>>, AllocError> {
     let mut entries = Items::new(alloc);
     for hit in hits {
-        let span = place(tree, hit.node);
+        let span = place(tree, hit.site.node);
         entries.push(Entry {
             item: alarm_of(alloc, tree, *hit)?,
             file: name_of(alloc, name.as_bytes())?,
@@ -145,7 +140,7 @@ fn alarm_entries(
 
 /// An alarm under its unit and the first name of the path that its statement assigns.
 fn alarm_of(alloc: Global, tree: &SourceTree, hit: Hit) -> Result<Alarm, AllocError> {
-    let (unit, subject) = match statement_of(tree, hit.node) {
+    let (unit, subject) = match statement_of(tree, hit.site.node) {
         Some((unit, Stmt::Assign(_, target, _))) => {
             (unit.name.name.bytes(), target.root.name.bytes())
         }
@@ -155,8 +150,7 @@ fn alarm_of(alloc: Global, tree: &SourceTree, hit: Hit) -> Result<Alarm, AllocEr
         kind: hit.kind,
         unit: name_of(alloc, unit)?,
         subject: name_of(alloc, subject)?,
-        node: hit.node,
-        file: hit.file,
+        site: hit.site,
         low: hit.low,
         high: hit.high,
     })
@@ -169,9 +163,19 @@ fn range_lines(
     solution: &Solution,
 ) -> Result<Items<RangeLine>, AllocError> {
     let mut lines = Items::new(alloc);
-    add_lines(alloc, component.shared.as_slice(), &solution.ranges.shared, &mut lines)?;
+    add_lines(
+        alloc,
+        component.shared.as_slice(),
+        &solution.ranges.shared,
+        &mut lines,
+    )?;
     for task in component.tasks.as_slice() {
-        add_lines(alloc, task.cells.as_slice(), &solution.ranges.own, &mut lines)?;
+        add_lines(
+            alloc,
+            task.cells.as_slice(),
+            &solution.ranges.own,
+            &mut lines,
+        )?;
     }
     Ok(lines)
 }

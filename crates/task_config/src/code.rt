@@ -4,7 +4,7 @@ ghost use Rattle.std.specs.Prelude.{◌≡◌};
 
 use iec_tables::elem::Elem;
 use sqlite_items::Items;
-use st_tree::{Cell, Code, Expr, Literal, Number, Operation, Stmt};
+use st_tree::{Cell, Code, Expr, Literal, Number, Operation, Site, Stmt};
 use std::alloc::{AllocError, Global};
 use std::collections::BTreeMap;
 
@@ -53,7 +53,10 @@ fn value_code(
             }
             Expr::Binary(node, operator, left, right) => {
                 let operation = Operation {
-                    node: node.number,
+                    site: Site {
+                        file: 0,
+                        node: node.number,
+                    },
                     elem: Elem::Int,
                     operator: *operator,
                 };
@@ -78,7 +81,10 @@ fn number_of(literal: Literal) -> Number {
 }
 
 /// Adds the literals of these statements.
-pub(crate) fn collect_literals(body: &[Stmt], literals: &mut Items<i128>) -> Result<(), AllocError> {
+pub(crate) fn collect_literals(
+    body: &[Stmt],
+    literals: &mut Items<i128>,
+) -> Result<(), AllocError> {
     for statement in body {
         match statement {
             Stmt::Assign(_, _, value) => collect_of_value(value, literals)?,

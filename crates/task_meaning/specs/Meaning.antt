@@ -13,12 +13,16 @@ use Rattle.st_tree.specs.declared.code.TaskCode.{TaskCode}
 use Rattle.st_tree.specs.declared.code.Component.{Component}
 use Rattle.st_tree.specs.declared.tree.Operator.{Operator}
 use Rattle.st_tree.specs.declared.tree.Operator.TheVariants.{Add, Subtract}
-use Rattle.st_tree.specs.declared.node.NodeNo.{NodeNo}
+use Rattle.st_tree.specs.declared.node.Site.{Site}
 use Rattle.st_tree.specs.Code.{Instructions, Done, Literal, Read, Operate, Write, reading}
 
 -- ---- what a task has
 
--- a shared cell: its number, and the task that wrote it last, or nobody
+-- A cell is a list of numbers: that of a variable of an elementary type holds one.
+abbrev pub Numbers : Type 0
+Numbers = List ℤ
+
+-- a number of a shared cell, and the task that wrote it last, or nobody
 pub record Written : Type 0 where
   pub value : ℤ
   pub writer : Option ℕ
@@ -34,14 +38,21 @@ pub data Item : Type 0 where
 pub record TaskState : Type 0 where
   pub work : List Item
   pub stack : List ℤ
-  pub own : List ℤ
+  pub own : List Numbers
+
+abbrev pub doing : TaskState → List Item → TaskState
+doing s work = record s { work = work }
+
+-- the instructions come next, and these numbers are pending
+abbrev pub go_to : TaskState → Instructions → List Item → List ℤ → TaskState
+go_to s rest work stack = record s { work = Run rest ∷ work; stack = stack }
 
 -- ---- one step
 
 -- what a step does. Waits: there is nothing that the task can do
 pub data Act : Type 0 where
-  Goes : List Written → TaskState → Act
-  Faults : Kind → NodeNo → (value : ℤ) → Act
+  Goes : List (List Written) → TaskState → Act
+  Faults : Kind → Site → (value : ℤ) → Act
   Waits : Act
 
 -- the whole-number result of an operator
@@ -52,7 +63,7 @@ result_of Subtract x y = difference_of x y
 -- a result outside the type of the expression is a fault at its node
 abbrev pub checked : Operation → ℤ → (ℤ → Act) → Act
 checked operation value go =
-    if holds (range_of operation.elem) value then go value else Faults Overflow operation.node value
+    if holds (range_of operation.elem) value then go value else Faults Overflow operation.site value
 
 abbrev pub with_some : {A : Type 0} → Option A → (A → Act) → Act
 with_some None go = Waits
@@ -63,78 +74,91 @@ abbrev pub with_top : List ℤ → (ℤ → List ℤ → Act) → Act
 with_top [] go = Waits
 with_top (value ∷ below) go = go value below
 
+-- the first number of a cell
+abbrev pub with_first : {A : Type 0} → Option (List A) → (A → Act) → Act
+with_first None go = Waits
+with_first (Some []) go = Waits
+with_first (Some (x ∷ xs)) go = go x
+
 -- what runs in a cycle, and after it the next cycle
 abbrev pub cycle_of : Instructions → List Item
 cycle_of code = Run code ∷ (Cycle ∷ [])
 
--- The first instruction, done by task number `me`. Each makes at most one access to one cell.
-abbrev pub instruct : (me : ℕ) → List Written → Instructions → List Item → (stack own : List ℤ) → Act
-instruct me shared Done work stack own = Goes shared (record { work = work; stack = stack; own = own })
-instruct me shared (Literal value rest) work stack own =
-    Goes shared (record { work = Run rest ∷ work; stack = value ∷ stack; own = own })
-instruct me shared (Read (Own place) rest) work stack own =
-    with_some (slice_get own place) (λ value. Goes shared (record { work = Run rest ∷ work; stack = value ∷ stack; own = own }))
-instruct me shared (Read (Shared place) rest) work stack own =
-    with_some (slice_get shared place) (λ cell. Goes shared (record { work = Run rest ∷ work; stack = cell.value ∷ stack; own = own }))
-instruct me shared (Operate operation rest) work stack own =
-    with_top stack (λ right below. with_top below (λ left under.
-        checked operation (result_of operation.operator left right) (λ value.
-            Goes shared (record { work = Run rest ∷ work; stack = value ∷ under; own = own }))))
-instruct me shared (Write (Own place) rest) work stack own =
-    with_top stack (λ value below. Goes shared (record { work = Run rest ∷ work; stack = below; own = slice_set own place value }))
-instruct me shared (Write (Shared place) rest) work stack own =
-    with_top stack (λ value below.
-        Goes (slice_set shared place (record { value = value; writer = Some me })) (record { work = Run rest ∷ work; stack = below; own = own }))
+-- The first instruction, done by task number `me` in this state, with this other work. Each makes at most one access to one cell.
+abbrev pub instruct : (me : ℕ) → List (List Written) → Instructions → List Item → TaskState → Act
+instruct me shared Done work s = Goes shared (doing s work)
+instruct me shared (Literal value rest) work s = Goes shared (go_to s rest work (value ∷ s.stack))
+instruct me shared (Read (Own place) rest) work s =
+    with_first (slice_get s.own place) (λ value. Goes shared (go_to s rest work (value ∷ s.stack)))
+instruct me shared (Read (Shared place) rest) work s =
+    with_first (slice_get shared place) (λ number. Goes shared (go_to s rest work (number.value ∷ s.stack)))
+instruct me shared (Operate operation rest) work s =
+    with_top s.stack (λ right below. with_top below (λ left under.
+    checked operation (result_of operation.operator left right) (λ value. Goes shared (go_to s rest work (value ∷ under)))))
+instruct me shared (Write (Own place) rest) work s =
+    with_top s.stack (λ value below.
+    Goes shared (record (go_to s rest work below) { own = slice_set s.own place (value ∷ []) }))
+instruct me shared (Write (Shared place) rest) work s =
+    with_top s.stack (λ value below.
+    Goes (slice_set shared place (record { value = value; writer = Some me } ∷ [])) (go_to s rest work below))
 
 -- The first item of the work of task number `me`, which runs this code in each cycle.
-abbrev pub act : Instructions → (me : ℕ) → List Written → List Item → (stack own : List ℤ) → Act
-act code me shared [] stack own = Waits
-act code me shared (Cycle ∷ work) stack own = Goes shared (record { work = cycle_of code; stack = []; own = own })
-act code me shared (Run instructions ∷ work) stack own = instruct me shared instructions work stack own
+abbrev pub act_on : Instructions → (me : ℕ) → List (List Written) → TaskState → List Item → Act
+act_on code me shared s [] = Waits
+act_on code me shared s (Cycle ∷ work) = Goes shared (record s { work = cycle_of code; stack = [] })
+act_on code me shared s (Run instructions ∷ work) = instruct me shared instructions work s
+
+abbrev pub act : Instructions → (me : ℕ) → List (List Written) → TaskState → Act
+act code me shared s = act_on code me shared s s.work
 
 -- ---- runs of a component
 
-pub record World : Type 0 where
-  pub shared : List Written
-  pub states : List TaskState
+-- the shared cells, and what each task has
+pub record State : Type 0 where
+  pub shared : List (List Written)
+  pub tasks : List TaskState
+
+-- a step: of which task
+pub record Move : Type 0 where
+  pub task : ℕ
 
 pub data Outcome : Type 0 where
-  Continues : World → Outcome
-  Faulty : World → (task : ℕ) → Kind → NodeNo → (value : ℤ) → Outcome
+  Continues : State → Outcome
+  Faulty : State → (task : ℕ) → Kind → Site → (value : ℤ) → Outcome
 
-abbrev pub acted : World → ℕ → Act → Outcome
-acted world me (Goes shared state) = Continues (record { shared = shared; states = slice_set world.states me state })
-acted world me (Faults kind node value) = Faulty world me kind node value
-acted world me Waits = Continues world
+abbrev pub acted : State → ℕ → Act → Outcome
+acted state me (Goes shared s) = Continues (record { shared = shared; tasks = slice_set state.tasks me s })
+acted state me (Faults kind site value) = Faulty state me kind site value
+acted state me Waits = Continues state
 
-abbrev pub step_of : World → ℕ → Option TaskCode → Option TaskState → Outcome
-step_of world me None state = Continues world
-step_of world me (Some task) None = Continues world
-step_of world me (Some task) (Some s) = acted world me (act (reading task.code) me world.shared s.work s.stack s.own)
+abbrev pub step_of : State → ℕ → Option TaskCode → Option TaskState → Outcome
+step_of state me None s = Continues state
+step_of state me (Some task) None = Continues state
+step_of state me (Some task) (Some s) = acted state me (act (reading task.code) me state.shared s)
 
--- a step of task number `me`
-abbrev pub step : Component → World → ℕ → Outcome
-step component world me = step_of world me (slice_get component.tasks me) (slice_get world.states me)
+abbrev pub step : Component → State → Move → Outcome
+step component state move = step_of state move.task (slice_get component.tasks move.task) (slice_get state.tasks move.task)
 
-abbrev pub go_on : Outcome → (World → Outcome) → Outcome
-go_on (Continues world) go = go world
-go_on (Faulty world task kind node value) go = Faulty world task kind node value
+abbrev pub go_on : Outcome → (State → Outcome) → Outcome
+go_on (Continues state) go = go state
+go_on (Faulty state task kind site value) go = Faulty state task kind site value
 
 -- A run: a list of steps, each by any task, which ends at its first fault.
-abbrev pub run : Component → List ℕ → World → Outcome
-run component [] world = Continues world
-run component (me ∷ steps) world = go_on (step component world me) (run component steps)
+abbrev pub run : Component → List Move → State → Outcome
+run component [] state = Continues state
+run component (move ∷ moves) state = go_on (step component state move) (run component moves)
 
 -- ---- the start
 
-abbrev pub starts : List CellInfo → List ℤ
-starts cells = map (λ cell. cell.start) cells
+abbrev pub starts : List CellInfo → List Numbers
+starts cells = map (λ cell. cell.start ∷ []) cells
 
 abbrev pub state_at_start : TaskCode → TaskState
 state_at_start task = record { work = Cycle ∷ []; stack = []; own = starts task.cells }
 
-abbrev pub start : Component → World
-start component = record {
-  shared = map (λ value. record { value = value; writer = None }) (starts component.shared);
-  states = map state_at_start component.tasks;
-}
+-- nobody has written a shared cell
+abbrev pub unwritten : Numbers → List Written
+unwritten numbers = map (λ value. record { value = value; writer = None }) numbers
+
+abbrev pub start : Component → State
+start component = record { shared = map unwritten (starts component.shared); tasks = map state_at_start component.tasks }

@@ -1,0 +1,357 @@
+// The program over objects in memory: each status, the worked rows, and each read and put failing in turn; and the calls of the lower
+// crates that the program doesn't make.
+ghost use Rattle.std.specs.Prelude.{◌≡◌};
+
+use crate::run::{run, run_sure};
+use crate::status::Status;
+use station_ports::memory::{FileBytes, MemoryFiles, MemorySink, MemorySource};
+use station_ports::outside::{Failed, Source};
+use station_ports::steps::Steps;
+use station_ports::sure::{SureFiles, SureSink, SureSource};
+use station_ports::texts::Name;
+use std::alloc::{AllocError, Global};
+use std::marker::Brand;
+use std::sync::ledger::{Blank, Ledger};
+use std::test::Fail;
+
+const CHECK: [&str; 2] = ["check", "a.st"];
+
+/// What a call over memory gave.
+#[derive(Debug, Drop)]
+struct Outcome {
+    status: Status,
+    output: Vec<u8>,
+    parsed: u64,
+    solved: u64,
+}
+
+fn words_of(alloc: Global, words: &[&str]) -> Result<Vec<String>, AllocError> {
+    let mut all = Vec::new(alloc);
+    for word in words {
+        all.push(String::from_str(alloc, word)?)?;
+    }
+    Ok(all)
+}
+
+fn name_of(alloc: Global, name: &str) -> Result<Name, AllocError> {
+    Name::of(alloc, name.as_bytes()).map_err(|_| AllocError)
+}
+
+/// The file `a.st` of this content.
+fn file_of(alloc: Global, content: &[u8]) -> Result<FileBytes, AllocError> {
+    Ok(FileBytes {
+        name: name_of(alloc, "a.st")?,
+        bytes: content.to_vec(alloc)?,
+    })
+}
+
+fn over<L: Ledger>(
+    rt: &HostRuntime,
+    blank: Blank,
+    words: &[&str],
+    content: &[u8],
+    failing_reads: &[u64],
+    failing_puts: &[u64],
+) -> Result<Outcome, AllocError>
+    requires name { blank.name ≡ L.name }
+    requires parts { blank.parts ≡ L.parts }
+    requires two { blank.parts ≡ 2 }
+{
+    let alloc = rt.alloc();
+    let words = words_of(alloc, words)?;
+    let mut list = Vec::new(alloc);
+    list.push(file_of(alloc, content)?)?;
+    let mut files = MemoryFiles::of(alloc, list, failing_reads.to_vec(alloc)?);
+    let mut out = MemorySink::of(alloc, failing_puts.to_vec(alloc)?);
+    let mut steps = Steps::<L>::new(rt, blank);
+    let status = run(alloc, &words, &mut files, &mut out, &mut steps);
+    Ok(Outcome {
+        status,
+        output: out.bytes().to_vec(alloc)?,
+        parsed: steps.parsed(),
+        solved: steps.solved(),
+    })
+}
+
+fn result_over(
+    rt: &HostRuntime,
+    words: &[&str],
+    content: &[u8],
+    failing_reads: &[u64],
+    failing_puts: &[u64],
+) -> Result<Outcome, AllocError> {
+    over::<Brand>(
+        rt,
+        Blank::new(2),
+        words,
+        content,
+        failing_reads,
+        failing_puts,
+    )
+}
+
+fn sure<L: Ledger>(rt: &HostRuntime, blank: Blank) -> Result<Outcome, AllocError>
+    requires name { blank.name ≡ L.name }
+    requires parts { blank.parts ≡ L.parts }
+    requires two { blank.parts ≡ 2 }
+{
+    let alloc = rt.alloc();
+    let words = words_of(alloc, &CHECK)?;
+    let mut files = SureFiles::of(alloc, Vec::new(alloc));
+    let mut out = SureSink::of(alloc);
+    let mut steps = Steps::<L>::new(rt, blank);
+    let status = run_sure(alloc, &words, &mut files, &mut out, &mut steps);
+    Ok(Outcome {
+        status,
+        output: out.bytes().to_vec(alloc)?,
+        parsed: steps.parsed(),
+        solved: steps.solved(),
+    })
+}
+
+fn sure_result(rt: &HostRuntime) -> Result<Outcome, AllocError> {
+    sure::<Brand>(rt, Blank::new(2))
+}
+
+/// A text, and the status and the output that it is checked with.
+struct Row {
+    text: &'static str,
+    status: Status,
+    output: &'static str,
+}
+
+/// Texts of the first form.
+const ANALYSED: [Row; 9] = [
+    Row {
+        text: "PROGRAM P\nVAR a, b : INT; END_VAR\na := 5; b := a - 7;\nEND_PROGRAM\n",
+        status: Status::Clean,
+        output: "VERDICT FREE\nRANGE MAIN.A 0..5\nRANGE MAIN.B -128..0\nEND open 0 waived 0\n",
+    },
+    Row {
+        text: "PROGRAM P\nVAR n : INT; END_VAR\nn := n + 1;\nEND_PROGRAM\n",
+        status: Status::Open,
+        output: "VERDICT ALARMS 1\nALARM A4 Overflow P N a.st:3:1 range 1..32768\nRANGE MAIN.N 0..32767\nEND open 1 waived 0\n",
+    },
+    Row {
+        text: "program p end_program",
+        status: Status::Clean,
+        output: "VERDICT FREE\nEND open 0 waived 0\n",
+    },
+    Row {
+        text: "PROGRAM P VAR END_VAR END_PROGRAM",
+        status: Status::Clean,
+        output: "VERDICT FREE\nEND open 0 waived 0\n",
+    },
+    // The outer sum is numbered first, and so is its alarm.
+    Row {
+        text: "PROGRAM P\r\nVAR a : INT; END_VAR\r\n\ta := a + 1 + 1;\r\nEND_PROGRAM",
+        status: Status::Open,
+        output: "VERDICT ALARMS 2\nALARM A4 Overflow P A a.st:3:2 range 2..32768\nALARM A4 Overflow P A a.st:3:2 range 1..32768\nRANGE MAIN.A 0..32767\nEND open 2 waived 0\n",
+    },
+    // A minus before a number is part of the literal, also behind an operator and over blanks.
+    Row {
+        text: "PROGRAM P VAR _a, B2 : INT; c : INT; END_VAR\n_A := 3 - - 5; b2 := -32767; C := - 0 + 32767; END_PROGRAM",
+        status: Status::Clean,
+        output: "VERDICT FREE\nRANGE MAIN._A 0..127\nRANGE MAIN.B2 -32767..0\nRANGE MAIN.C 0..32767\nEND open 0 waived 0\n",
+    },
+    // What comes behind an assignment that always overflows is not reached.
+    Row {
+        text: "PROGRAM P VAR a, b : INT; END_VAR a := 32767 + 1; b := 7; END_PROGRAM",
+        status: Status::Open,
+        output: "VERDICT ALARMS 1\nALARM A4 Overflow P A a.st:1:35 range 32768..32768\nRANGE MAIN.A 0..0\nRANGE MAIN.B 0..0\nEND open 1 waived 0\n",
+    },
+    // The head of the cycle grows over several rounds: b takes what a had, c what b had.
+    Row {
+        text: "PROGRAM P VAR a, b, c : INT; END_VAR c := b; b := a; a := 9; END_PROGRAM",
+        status: Status::Clean,
+        output: "VERDICT FREE\nRANGE MAIN.A 0..9\nRANGE MAIN.B 0..9\nRANGE MAIN.C 0..9\nEND open 0 waived 0\n",
+    },
+    // A literal's neighbours are on the grid, other numbers are rounded outward.
+    Row {
+        text: "PROGRAM P VAR a, b : INT; END_VAR a := 40; a := a - 1; b := a - 1; END_PROGRAM",
+        status: Status::Clean,
+        output: "VERDICT FREE\nRANGE MAIN.A 0..40\nRANGE MAIN.B 0..39\nEND open 0 waived 0\n",
+    },
+];
+
+/// Texts that stop being of the first form, and where.
+const REFUSED: [(&str, &str); 22] = [
+    ("", "1:1"),
+    (
+        "PROGRAM P\nVAR n : INT; END_VAR\nIF n < 100 THEN n := n + 1; END_IF;\nEND_PROGRAM\n",
+        "3:1",
+    ),
+    ("PROGRAM IF END_PROGRAM", "1:9"),
+    ("PROGRAM P", "1:10"),
+    ("PROGRAM P END_PROGRAM PROGRAM", "1:23"),
+    ("PROGRAM P VAR n, N : INT; END_VAR END_PROGRAM", "1:18"),
+    (
+        "PROGRAM P VAR n : INT; m, n : INT; END_VAR END_PROGRAM",
+        "1:27",
+    ),
+    ("PROGRAM P VAR n : SINT; END_VAR END_PROGRAM", "1:19"),
+    ("PROGRAM P VAR n : INT END_VAR END_PROGRAM", "1:23"),
+    (
+        "PROGRAM P VAR n : INT; END_VAR VAR m : INT; END_VAR END_PROGRAM",
+        "1:32",
+    ),
+    ("PROGRAM P VAR n : INT; END_VAR\nm := 1; END_PROGRAM", "2:1"),
+    ("PROGRAM P VAR n : INT; END_VAR\nn := m; END_PROGRAM", "2:6"),
+    (
+        "PROGRAM P VAR n : INT; END_VAR\nn := 32768; END_PROGRAM",
+        "2:6",
+    ),
+    (
+        "PROGRAM P VAR n : INT; END_VAR\nn := -32768; END_PROGRAM",
+        "2:7",
+    ),
+    (
+        "PROGRAM P VAR n : INT; END_VAR\nn := 5a; END_PROGRAM",
+        "2:6",
+    ),
+    (
+        "PROGRAM P VAR n : INT; END_VAR\nn := 5.; END_PROGRAM",
+        "2:6",
+    ),
+    (
+        "PROGRAM P VAR n : INT; END_VAR\nn := 1_000; END_PROGRAM",
+        "2:6",
+    ),
+    (
+        "PROGRAM P VAR n : INT; END_VAR\nn := - - 5; END_PROGRAM",
+        "2:8",
+    ),
+    (
+        "PROGRAM P VAR n : INT; END_VAR\nn := n + ; END_PROGRAM",
+        "2:10",
+    ),
+    (
+        "PROGRAM P VAR n : INT; END_VAR\nn := 1 n; END_PROGRAM",
+        "2:8",
+    ),
+    ("PROGRAM P VAR a__b : INT; END_VAR END_PROGRAM", "1:15"),
+    (
+        "PROGRAM P VAR a : INT; END_VAR\n\n  \u{e9} END_PROGRAM",
+        "3:3",
+    ),
+];
+
+#[test]
+fn analysed_texts(rt: HostRuntime) -> Result<(), Fail> {
+    for row in &ANALYSED {
+        let found = result_over(&rt, &CHECK, row.text.as_bytes(), &[], &[])?;
+        assert_eq!(rt; found.status, row.status, "{}", row.text);
+        assert_eq!(rt;
+            found.output.as_slice(),
+            row.output.as_bytes(),
+            "{}",
+            row.text
+        );
+    }
+    Ok(())
+}
+
+#[test]
+fn refused_texts(rt: HostRuntime) -> Result<(), Fail> {
+    for (text, place) in &REFUSED {
+        let found = result_over(&rt, &CHECK, text.as_bytes(), &[], &[])?;
+        let output = format!(in rt.alloc();
+            "VERDICT REFUSED a.st:{place} 8 NotBuilt\nEND open 0 waived 0\n"
+        )?;
+        assert_eq!(rt; found.status, Status::Refused, "{text}");
+        assert_eq!(rt; found.output.as_slice(), output.as_bytes(), "{text}");
+    }
+    Ok(())
+}
+
+#[test]
+fn words(rt: HostRuntime) -> Result<(), Fail> {
+    let misused: [&[&str]; 6] = [
+        &[],
+        &["check"],
+        &["check", ""],
+        &["check", "-a"],
+        &["check", "a.st", "b.st"],
+        &["Check", "a.st"],
+    ];
+    for words in misused {
+        let found = result_over(&rt, words, b"", &[], &[])?;
+        assert_eq!(rt; found.status, Status::Usage);
+        assert_eq!(rt;
+            found.output.as_slice(),
+            b"USAGE check serve import-waivers export-findings generate\n".as_slice()
+        );
+    }
+    let missing = result_over(&rt, &["check", "b.st"], b"", &[], &[])?;
+    assert_eq!(rt; missing.status, Status::ReadFault);
+    assert_eq!(rt; missing.output.as_slice(), b"ERROR read b.st\n".as_slice());
+    Ok(())
+}
+
+#[test]
+fn limits(rt: HostRuntime) -> Result<(), Fail> {
+    let above = vec![in rt.alloc(); b' '; 1_048_577]?;
+    let found = result_over(&rt, &CHECK, &above, &[], &[])?;
+    assert_eq!(rt; found.status, Status::TooLong);
+    assert_eq!(rt;
+        found.output.as_slice(),
+        b"ERROR too long a.st\n".as_slice()
+    );
+    let longest = vec![in rt.alloc(); b' '; 1_048_576]?;
+    let within = result_over(&rt, &CHECK, &longest, &[], &[])?;
+    assert_eq!(rt; within.status, Status::Refused);
+    assert_eq!(rt;
+        within.output.as_slice(),
+        b"VERDICT REFUSED a.st:1:1048577 8 NotBuilt\nEND open 0 waived 0\n".as_slice()
+    );
+    Ok(())
+}
+
+#[test]
+fn failing_calls(rt: HostRuntime) -> Result<(), Fail> {
+    let text = b"PROGRAM P END_PROGRAM".as_slice();
+    let read = result_over(&rt, &CHECK, text, &[1], &[])?;
+    assert_eq!(rt; read.status, Status::ReadFault);
+    assert_eq!(rt; read.output.as_slice(), b"ERROR read a.st\n".as_slice());
+    let put = result_over(&rt, &CHECK, text, &[], &[1])?;
+    assert_eq!(rt; put.status, Status::WriteFault);
+    assert_eq!(rt; put.output.as_slice(), b"".as_slice());
+    let both = result_over(&rt, &CHECK, text, &[1], &[1])?;
+    assert_eq!(rt; both.status, Status::WriteFault);
+    let later = result_over(&rt, &CHECK, text, &[2], &[2])?;
+    assert_eq!(rt; later.status, Status::Clean);
+    assert_eq!(rt; later.parsed, 3);
+    assert_eq!(rt; later.solved, 1);
+    Ok(())
+}
+
+#[test]
+fn over_sure_forms(rt: HostRuntime) -> Result<(), Fail> {
+    let found = sure_result(&rt)?;
+    assert_eq!(rt; found.status, Status::Refused);
+    assert_eq!(rt;
+        found.output.as_slice(),
+        b"VERDICT REFUSED a.st:1:1 8 NotBuilt\nEND open 0 waived 0\n".as_slice()
+    );
+    assert_eq!(rt; found.parsed, 0);
+    Ok(())
+}
+
+#[test]
+fn sources(rt: HostRuntime) -> Result<(), Fail> {
+    let alloc = rt.alloc();
+    let mut source = MemorySource::of(
+        Vec::from_slice(alloc, b"abc")?,
+        Vec::from_slice(alloc, &[2])?,
+    );
+    let mut into = [0; 2];
+    assert_eq!(rt; source.take(&mut into), Ok(2));
+    assert_eq!(rt; into, *b"ab");
+    assert_eq!(rt; source.take(&mut into), Err(Failed));
+    assert_eq!(rt; source.take(&mut into), Ok(1));
+    assert_eq!(rt; source.take(&mut into), Ok(0));
+    let mut sure = SureSource::of(Vec::from_slice(alloc, b"c")?);
+    assert_eq!(rt; sure.take(&mut into), Ok(1));
+    assert_eq!(rt; sure.take(&mut into), Ok(0));
+    Ok(())
+}
