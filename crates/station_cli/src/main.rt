@@ -35,7 +35,7 @@ fn start<L: Ledger>(rt: &HostRuntime, blank: Blank) -> Status
     let mut steps = Steps::<L>::new(rt, blank);
     match read_args(rt) {
         Ok(words) => run::run(rt.alloc(), &words, &mut files, &mut out, &mut steps),
-        Err(NoMemory) => Status::NoMemory,
+        Err(NoMemory) => run::write_no_memory(&mut out),
     }
 }
 

@@ -1,5 +1,5 @@
 // The program over any files and any output.
-ghost use Rattle.std.specs.Prelude.{◌≡◌, List, ℕ, ◌++◌, Some, None, IfOk, [], ◌∷◌, map, string_bytes};
+ghost use Rattle.std.specs.Prelude.{◌≡◌, List, ℕ, ◌++◌, Some, None, IfOk, [], ◌∷◌, map, string_bytes, codes};
 ghost use Rattle.station_ports.specs.Calls.{Rose};
 ghost use Rattle.report_text.specs.Text as report_text;
 ghost use Rattle.station_cli.specs.Words.{check, command_of};
@@ -52,8 +52,15 @@ pub fn run<F: Files, S: Sink, L: Ledger>(
 {
     match work(alloc, words, files, steps) {
         Ok(reply) => write_line(out, reply.status, &reply.text),
-        Err(NoMemory) => write_line(out, Status::NoMemory, b"ERROR memory\n"),
+        Err(NoMemory) => write_no_memory(out),
     }
+}
+
+/// Writes the line of status 9, NoMemory; a refusal of it leaves the status.
+pub fn write_no_memory<S: Sink>(out: &mut S) -> Status
+    ensures { IsWritten (S.view out.old) (S.view out.new) Status.NoMemory (codes "ERROR memory\n") result }
+{
+    write_line(out, Status::NoMemory, b"ERROR memory\n")
 }
 
 /// Over files and an output that never fail no fault is answered.

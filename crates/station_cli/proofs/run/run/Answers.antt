@@ -18,16 +18,16 @@ pub returns-in-Err-clause-complete : goal.returns-in-Err-clause-complete
 returns-in-Err-clause-complete g c =
     completes _ {new = record { files = g.F.Files.view c.work.new.files }}
     (record { course = out_of_memory; cause = tt; status_is = refl; text_is = refl })
-    c.write_line-in-Err.ensures
+    c.write_no_memory.ensures
 
 pub returns-in-Err-clause-misused : goal.returns-in-Err-clause-misused
 returns-in-Err-clause-misused g c =
     misused_ends (map string_bytes c.args.words.now) {old = record { files = g.F.Files.view c.args.files.now }} {new = record { files = g.F.Files.view c.work.new.files }}
     (record { course = out_of_memory; cause = tt; status_is = refl; text_is = refl })
-    c.write_line-in-Err.ensures
+    c.write_no_memory.ensures
 
 pub returns-in-Err-clause-above : goal.returns-in-Err-clause-above
 returns-in-Err-clause-above g c =
     above_ends _ {new = record { files = g.F.Files.view c.work.new.files }}
     (record { course = out_of_memory; cause = tt; status_is = refl; text_is = refl })
-    c.write_line-in-Err.ensures
+    c.write_no_memory.ensures
