@@ -1,2 +1,4 @@
 pub mod Pass
+pub mod Fill
+pub mod Next
 pub mod Table

@@ -14,6 +14,8 @@ use Rattle.st_tree.specs.declared.tree.Operator.{Operator}
 use Rattle.st_tree.specs.declared.tree.Operator.TheVariants.{Add, Subtract}
 use Rattle.st_tree.specs.declared.node.Site.{Site}
 use Rattle.st_tree.specs.Code.{Instructions, Done, Literal, Read, Operate, Write}
+use Rattle.cycle_analysis.specs.declared.task_pass.Value.{Value}
+use Rattle.cycle_analysis.specs.declared.task_pass.Value.TheVariants.{Plain, Of}
 
 -- ---- lists of intervals, empty past their end
 
@@ -28,6 +30,19 @@ put [] k j = []
 put (i ∷ is) zero j = j ∷ is
 put (i ∷ is) (suc k) j = i ∷ put is k j
 
+-- the same by a cell
+abbrev pub cell_at : Cell → (own shared : List Interval) → Interval
+cell_at (Own k) own shared = at own k
+cell_at (Shared k) own shared = at shared k
+
+abbrev pub own_put : Cell → Interval → List Interval → List Interval
+own_put (Own k) i own = put own k i
+own_put (Shared k) i own = own
+
+abbrev pub shared_put : Cell → Interval → List Interval → List Interval
+shared_put (Own k) i shared = shared
+shared_put (Shared k) i shared = put shared k i
+
 -- ---- states
 
 -- what is known at a point of a task: an interval of each own cell, and a view of each shared one
@@ -35,11 +50,7 @@ pub data State : Type 0 where
   Unreachable : State
   Reached : (own views : List Interval) → State
 
--- the numbers of an expression, and how they came about: read from a cell, or otherwise
-pub data Value : Type 0 where
-  Plain : Interval → Value
-  Of : Cell → Interval → Value
-
+-- the numbers of an entry of the stack; it was read from a cell, or came about otherwise
 abbrev pub interval_of : Value → Interval
 interval_of (Plain i) = i
 interval_of (Of cell i) = i

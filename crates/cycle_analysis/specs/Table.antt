@@ -1,12 +1,11 @@
 -- Closed tables, the solution, alarms and ranges. Source: thread-modular iteration until stable; the definition has no iteration. The
 -- code goes round until nothing grows.
-use Rattle.std.specs.Prelude.{◌≡◌, ◌⊎◌, ℕ, zero, suc, List, [], ◌∷◌, ◌++◌, map, length, Option, Some, slice_get, ℤ}
+use Rattle.std.specs.Prelude.{◌≡◌, ◌⊎◌, ℕ, zero, suc, List, [], ◌∷◌, map, length, Some, slice_get, ℤ}
 use Rattle.std.specs.List.{Contains}
 use Rattle.iec_tables.specs.declared.kind.Kind.{Kind}
-use Rattle.interval_domain.specs.Interval.{Interval, Empty, Span, Holds, IsWithin, hull}
+use Rattle.interval_domain.specs.Interval.{Interval, Span, Holds, IsWithin, hull}
 use Rattle.interval_domain.specs.Operators.{kept}
 use Rattle.interval_domain.specs.Grid.{rounded}
-use Rattle.st_tree.specs.declared.code.Cell.{Cell}
 use Rattle.st_tree.specs.declared.code.Cell.TheVariants.{Own, Shared}
 use Rattle.st_tree.specs.declared.code.TaskCode.{TaskCode}
 use Rattle.st_tree.specs.declared.code.Component.{Component}
@@ -14,7 +13,7 @@ use Rattle.st_tree.specs.declared.node.Site.{Site}
 use Rattle.st_tree.specs.declared.code.CellInfo.{CellInfo}
 use Rattle.st_tree.specs.Code.{reading}
 use Rattle.task_meaning.specs.Meaning.{State as Whole, TaskState, Numbers, Written, Move, Outcome, Continues, Faulty, start, run}
-use Rattle.cycle_analysis.specs.Pass.{State, Unreachable, Reached, Entry, Wrote, Alarm, Rely, Passed, at, pass}
+use Rattle.cycle_analysis.specs.Pass.{State, Unreachable, Reached, Entry, Wrote, Alarm, Passed, at, pass}
 
 -- what holds at the head of a cycle: an interval of each own cell, and a view of each shared one
 pub record Head : Type 0 where
@@ -145,3 +144,23 @@ abbrev pub Theorem : Type 0
 Theorem =
     (grid : List ℤ) (component : Component) (table : List Part) → IsClosed grid component table →
     (moves : List Move) → IsCovered component table (run component moves (start component))
+
+abbrev pub HasNoAlarm : List Entry → Type 0
+HasNoAlarm [] = Unit {0}
+HasNoAlarm (Wrote cell i ∷ log) = HasNoAlarm log
+HasNoAlarm (Alarm kind site i ∷ log) = ⊥
+
+-- no pass over any task tells an alarm
+abbrev pub IsFree : Component → List Part → Type 0
+IsFree component table = (me : ℕ) (task : TaskCode) → slice_get component.tasks me ≡ Some task → HasNoAlarm (pass_of task table me).log
+
+-- no fault, and the ranges hold
+abbrev pub GoesOn : Component → List Part → Outcome → Type 0
+GoesOn component table (Continues state) = InRanges component table state
+GoesOn component table (Faulty state me kind site value) = ⊥
+
+-- Where in addition no pass tells an alarm, no run faults.
+abbrev pub Theorem_free : Type 0
+Theorem_free =
+    (grid : List ℤ) (component : Component) (table : List Part) → IsClosed grid component table → IsFree component table →
+    (moves : List Move) → GoesOn component table (run component moves (start component))

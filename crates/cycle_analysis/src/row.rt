@@ -1,6 +1,8 @@
 // Rows of intervals: one for each of a task's own cells, and one for each shared cell.
 
 ghost use Rattle.std.specs.Prelude.{◌≡◌, IfOk, length};
+ghost use Rattle.interval_domain.specs.Interval.{hull};
+ghost use Rattle.cycle_analysis.specs.Pass.{at, put, cell_at, own_put, shared_put};
 
 use interval_domain::grid::Grid;
 use interval_domain::interval::{Interval, join};
@@ -23,21 +25,29 @@ impl Row {
         })
     }
 
-    pub fn get(&self, cell: Cell) -> Interval {
+    pub fn get(&self, cell: Cell) -> Interval
+        ensures { result ≡ cell_at cell self.now.own.items self.now.shared.items }
+    {
         match cell {
             Cell::Own(place) => interval_at(&self.own, place),
             Cell::Shared(place) => interval_at(&self.shared, place),
         }
     }
 
-    pub(crate) fn set(&mut self, cell: Cell, interval: Interval) {
+    pub(crate) fn set(&mut self, cell: Cell, interval: Interval)
+        ensures own { self.new.own.items ≡ own_put cell interval self.old.own.items }
+        ensures shared { self.new.shared.items ≡ shared_put cell interval self.old.shared.items }
+    {
         match cell {
             Cell::Own(place) => put_interval(&mut self.own, place, interval),
             Cell::Shared(place) => put_interval(&mut self.shared, place, interval),
         }
     }
 
-    pub(crate) fn join_at(&mut self, cell: Cell, interval: Interval) {
+    pub(crate) fn join_at(&mut self, cell: Cell, interval: Interval)
+        ensures own { self.new.own.items ≡ own_put cell (hull (cell_at cell self.old.own.items self.old.shared.items) interval) self.old.own.items }
+        ensures shared { self.new.shared.items ≡ shared_put cell (hull (cell_at cell self.old.own.items self.old.shared.items) interval) self.old.shared.items }
+    {
         self.set(cell, join(self.get(cell), interval));
     }
 
@@ -68,11 +78,17 @@ impl Row {
 }
 
 /// The interval at a place, empty past the end.
-pub(crate) fn interval_at(intervals: &[Interval], place: usize) -> Interval {
+#[tactic(auto, using(crate::proofs::Indices::at_is))]
+pub(crate) fn interval_at(intervals: &[Interval], place: usize) -> Interval
+    ensures { result ≡ at intervals.now place }
+{
     intervals.get(place).copied().unwrap_or(Interval::empty())
 }
 
-fn put_interval(intervals: &mut [Interval], place: usize, interval: Interval) {
+#[tactic(auto, using(crate::proofs::Indices::put_is, crate::proofs::Indices::put_past))]
+fn put_interval(intervals: &mut [Interval], place: usize, interval: Interval)
+    ensures { intervals.new ≡ put intervals.old place interval }
+{
     if place < intervals.len() {
         intervals[place] = interval;
     }
