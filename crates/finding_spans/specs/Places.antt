@@ -1,6 +1,6 @@
 -- The places of nodes and bytes. Source: this profile. The code searches statements and declarations by halves, and counts line feeds by the
 -- tree's list of them.
-use Rattle.std.specs.Prelude.{◌≡◌, ◌⊎◌, ℕ, ◌+◌, Bool, nat_eq, List, [], ◌∷◌, ◌++◌, length, map, flat_map, take, count_by, Option, Some, None}
+use Rattle.std.specs.Prelude.{◌≡◌, ◌⊎◌, ℕ, ◌+◌, Bool, nat_eq, List, [], ◌∷◌, ◌++◌, length, map, flat_map, take, if◌then◌else◌, Option, Some, None}
 use Rattle.std.specs.List.{list_any, filter}
 use Rattle.st_tree.specs.declared.node.Node.{Node}
 use Rattle.st_tree.specs.declared.node.NodeNo.{NodeNo}
@@ -15,15 +15,24 @@ use Rattle.st_tree.specs.Nodes.{stmt_nodes, decl_nodes, unit_nodes, name_node}
 
 -- ---- positions: lines count line feeds, columns bytes, both from 1
 
--- The byte stands in this line and column: before it stand whole lines, and then the part of its own line.
-pub record IsPosition (text : List ℕ) (at line column : ℕ) : Type 0 where
+-- how many line feeds there are
+abbrev pub feeds : List ℕ → ℕ
+feeds [] = 0
+feeds (byte ∷ bytes) = (if nat_eq byte 10 then 1 else 0) + feeds bytes
+
+-- What follows these bytes stands in this line and column: they are whole lines, and then the part of a line.
+pub record IsBehind (before : List ℕ) (line column : ℕ) : Type 0 where
   pub lines : List ℕ
   pub part : List ℕ
-  pub before : take at text ≡ lines ++ part
+  pub bytes : before ≡ lines ++ part
   pub whole : (lines ≡ []) ⊎ ((rest : List ℕ) × (lines ≡ rest ++ 10 ∷ []))
-  pub one : count_by (λ byte. nat_eq byte 10) part ≡ 0
-  pub line_is : line ≡ count_by (λ byte. nat_eq byte 10) lines + 1
+  pub one : feeds part ≡ 0
+  pub line_is : line ≡ feeds lines + 1
   pub column_is : column ≡ length part + 1
+
+-- The byte stands in this line and column.
+abbrev pub IsPosition : List ℕ → (at line column : ℕ) → Type 0
+IsPosition text at line column = IsBehind (take at text) line column
 
 -- ---- the node that a node is reported at
 

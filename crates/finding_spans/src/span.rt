@@ -1,6 +1,7 @@
 // The places of nodes and bytes in a file.
 
-ghost use Rattle.std.specs.Prelude.{◌≡◌, ◌≤◌, length};
+ghost use Rattle.std.specs.Prelude.{◌≡◌, ◌≤◌, ℕ, ◌+◌, List, [], ◌∷◌, ◌++◌, length};
+ghost use Rattle.finding_spans.specs.Places.{IsPosition, IsBehind};
 
 use st_tree::{Decl, Node, NodeNo, SourceTree, Stmt, Unit};
 
@@ -24,20 +25,36 @@ pub struct Span {
 pub fn line_of(text: &[u8], at: usize) -> Position
     requires text { length text.now ≤ 1048576 }
     requires at { at ≤ length text.now }
+    ensures { IsPosition text.now at result.line result.column }
 {
     let before = &text[..at];
     let mut position = Position { line: 1, column: 1 };
     for byte in before {
-        if *byte == b'\n' {
-            position = Position {
-                line: position.line.saturating_add(1),
-                column: 1,
-            };
-        } else {
-            position.column = position.column.saturating_add(1);
-        }
+        position = behind(position, *byte);
     }
     position
+}
+
+/// The position behind a byte at this one.
+fn behind(position: Position, byte: u8) -> Position
+    requires line { position.line ≤ 1048576 }
+    requires column { position.column ≤ 1048576 }
+    ensures line { result.line ≤ position.line + 1 }
+    ensures column { result.column ≤ position.column + 1 }
+    ensures behind { (before : List ℕ) → IsBehind before position.line position.column →
+        IsBehind (before ++ byte ∷ []) result.line result.column }
+{
+    if byte == b'\n' {
+        Position {
+            line: position.line + 1,
+            column: 1,
+        }
+    } else {
+        Position {
+            line: position.line,
+            column: position.column + 1,
+        }
+    }
 }
 
 /// The place of a node: that of the innermost declaration name, statement or unit that holds it. A declaration name holds its
