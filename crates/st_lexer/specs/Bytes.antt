@@ -1,5 +1,5 @@
 -- The bytes of tokens. Source: the lexical elements of the standard, narrowed to the first form. The code matches on ranges of bytes.
-use Rattle.std.specs.Prelude.{ℕ, Bool, true, false, ◌&&◌, ◌||◌, if◌then◌else◌, nat_eq, nat_le}
+use Rattle.std.specs.Prelude.{ℕ, Bool, ◌&&◌, ◌||◌, if◌then◌else◌, nat_eq, nat_le}
 use Rattle.st_lexer.specs.declared.front.Class.{Class}
 use Rattle.st_lexer.specs.declared.front.Class.TheVariants.{White, Letter, Digit, Other}
 

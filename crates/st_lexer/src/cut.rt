@@ -1,6 +1,7 @@
 // The tokens of a whole text.
 
-ghost use Rattle.std.specs.Prelude.{◌≡◌, ◌≤◌, length, IfOk};
+ghost use Rattle.std.specs.Prelude.{◌≡◌, ℕ, List, IfOk};
+ghost use Rattle.st_lexer.specs.Cut.{IsCut};
 
 use crate::front::{Class, class_of, cut_front};
 use std::alloc::{AllocError, Global};
@@ -20,7 +21,8 @@ impl From<AllocError> for LexFault {
 
 /// The tokens of the text, in its order. White space (space, tab, carriage return, line feed) stands between them.
 pub fn tokens<'t>(alloc: Global, text: &'t [u8]) -> Result<Tokens<'t>, LexFault>
-    ensures { IfOk result (λ tokens. tokens.text.now ≡ text.now) }
+    ensures text { IfOk result (λ tokens. tokens.text.now ≡ text.now) }
+    ensures cut { IfOk result (λ tokens. IsCut text.now tokens.list.items) }
 {
     let mut list = Vec::new(alloc);
     let mut at = 0;
@@ -41,3 +43,8 @@ pub fn tokens<'t>(alloc: Global, text: &'t [u8]) -> Result<Tokens<'t>, LexFault>
     }
     Ok(Tokens { text, list })
 }
+
+/// A text has one cut.
+pub fn one_cut()
+    ensures { (text : List ℕ) (xs ys : List Token) → IsCut text xs → IsCut text ys → xs ≡ ys }
+{}

@@ -1,7 +1,12 @@
 // The token at the front of a text.
 
-ghost use Rattle.std.specs.Prelude.{◌≡◌, ◌≤◌, ◌<◌, length};
-ghost use Rattle.st_lexer.specs.Bytes.{class, in_word};
+ghost use Rattle.std.specs.Prelude.{◌≡◌, ◌≤◌, ◌<◌, true, false, length, map, take, drop, bytes_eq, List, ℕ};
+ghost use Rattle.std.specs.List.{prefix_len};
+ghost use Rattle.iec_tables.specs.Letters.{raised};
+ghost use Rattle.st_lexer.specs.Bytes.{class, in_word, is_white, is_letter, is_digit};
+ghost use Rattle.st_lexer.specs.Cut as spec;
+ghost use Rattle.st_lexer.specs.Cut.{begins, is_well_formed, IsWord, IsText};
+ghost use Rattle.st_lexer.specs.Parts as part;
 
 use iec_tables::letters::raise;
 use iec_tables::words::keywords;
@@ -46,9 +51,11 @@ pub struct Front {
 
 /// The token at the front of bytes that begin with none of the white space.
 pub fn cut_front(bytes: &[u8]) -> Front
-    requires { 0 < length bytes.now }
+    requires some { 0 < length bytes.now }
+    requires dark { begins is_white bytes.now ≡ false }
     ensures some { 0 < result.length }
     ensures within { result.length ≤ length bytes.now }
+    ensures text { IsText result.kind (take result.length bytes.now) (drop result.length bytes.now) }
 {
     match class_of(bytes[0]) {
         Class::Letter => {
@@ -69,46 +76,49 @@ pub fn cut_front(bytes: &[u8]) -> Front
     }
 }
 
-/// How many bytes of a word stand at the front, and 1 where there is none.
+/// How many bytes of a word stand at the front.
 fn word_length(bytes: &[u8]) -> usize
-    requires { 0 < length bytes.now }
-    ensures some { 0 < result }
+    ensures value { result ≡ prefix_len in_word bytes.now }
     ensures within { result ≤ length bytes.now }
 {
-    let mut end = 1;
-    'word: while end < bytes.len() && is_word_byte(bytes[end]) {
+    let mut end = 0;
+    let mut rest = bytes;
+    'word: while let Some((byte, others)) = rest.split_first() {
+        if !is_word_byte(*byte) {
+            return end;
+        }
         end += 1;
+        rest = others;
     }
     end
 }
 
 /// The mark at the front, or a foreign byte.
 fn mark(bytes: &[u8]) -> Front
-    requires { 0 < length bytes.now }
+    requires some { 0 < length bytes.now }
+    requires dark { begins is_white bytes.now ≡ false }
+    requires apart { begins in_word bytes.now ≡ false }
     ensures some { 0 < result.length }
     ensures within { result.length ≤ length bytes.now }
+    ensures text { IsText result.kind (take result.length bytes.now) (drop result.length bytes.now) }
 {
-    let kind = match bytes[0] {
-        b':' => {
-            if bytes.len() > 1 && bytes[1] == b'=' {
-                return Front {
-                    kind: TokenKind::Becomes,
-                    length: 2,
-                };
-            }
-            TokenKind::Colon
-        }
-        b',' => TokenKind::Comma,
-        b';' => TokenKind::Semicolon,
-        b'+' => TokenKind::Plus,
-        b'-' => TokenKind::Minus,
-        _ => TokenKind::Foreign,
+    let (kind, length) = match bytes {
+        [b':', b'=', ..] => (TokenKind::Becomes, 2),
+        [b':', ..] => (TokenKind::Colon, 1),
+        [b',', ..] => (TokenKind::Comma, 1),
+        [b';', ..] => (TokenKind::Semicolon, 1),
+        [b'+', ..] => (TokenKind::Plus, 1),
+        [b'-', ..] => (TokenKind::Minus, 1),
+        _ => (TokenKind::Foreign, 1),
     };
-    Front { kind, length: 1 }
+    Front { kind, length }
 }
 
 /// The kind of a word that begins with a letter: a reserved word, a name, or foreign where it is malformed.
-fn word_kind(word: &[u8]) -> TokenKind {
+fn word_kind(word: &[u8]) -> TokenKind
+    requires { begins is_letter word.now ≡ true }
+    ensures { (rest : List ℕ) → IsWord word.now rest → IsText result word.now rest }
+{
     if is_same(word, b"PROGRAM") {
         TokenKind::Program
     } else if is_same(word, b"END_PROGRAM") {
@@ -119,7 +129,7 @@ fn word_kind(word: &[u8]) -> TokenKind {
         TokenKind::EndVar
     } else if is_same(word, b"INT") {
         TokenKind::Int
-    } else if is_name(word) && keywords().find(word).is_none() {
+    } else if is_name(word) && !is_taken(word) {
         TokenKind::Name
     } else {
         TokenKind::Foreign
@@ -127,49 +137,85 @@ fn word_kind(word: &[u8]) -> TokenKind {
 }
 
 /// Whether the word, its letters raised, is this text.
-fn is_same(word: &[u8], text: &[u8]) -> bool {
-    word.len() == text.len()
-        && word
-            .iter()
-            .zip(text)
-            .all(|(byte, letter)| raise(*byte) == *letter)
+fn is_same(word: &[u8], text: &[u8]) -> bool
+    ensures { result ≡ bytes_eq (map raised word.now) text.now }
+{
+    match word {
+        [] => text.is_empty(),
+        [byte, others @ ..] => match text {
+            [] => false,
+            [letter, letters @ ..] => raise(*byte) == *letter && is_same(others, letters),
+        },
+    }
+}
+
+/// Whether the word, its letters raised, is reserved.
+fn is_taken(word: &[u8]) -> bool
+    ensures { result ≡ part.is_taken word.now }
+{
+    keywords().find(word).is_some()
 }
 
 /// Whether no two underscores stand in a row in the word and none at its end.
-fn is_name(word: &[u8]) -> bool {
-    let mut after_underscore = false;
-    for byte in word {
-        if *byte == b'_' {
-            if after_underscore {
-                return false;
-            }
-            after_underscore = true;
-        } else {
-            after_underscore = false;
+fn is_name(word: &[u8]) -> bool
+    ensures { result ≡ is_well_formed word.now }
+{
+    let mut after = false;
+    let mut rest = word;
+    'byte: while let Some((byte, others)) = rest.split_first() {
+        let underscore = *byte == b'_';
+        if after && underscore {
+            return false;
         }
+        after = underscore;
+        rest = others;
     }
-    !after_underscore
+    !after
 }
 
 /// The kind of a word that begins with a digit, before these bytes.
-fn number_kind(word: &[u8], after: &[u8]) -> TokenKind {
-    match (number_value(word), after) {
-        (None, _) | (_, [b'#' | b'.', ..]) => TokenKind::Foreign,
-        (Some(_), _) => TokenKind::Number,
+fn number_kind(word: &[u8], after: &[u8]) -> TokenKind
+    requires { begins is_digit word.now ≡ true }
+    ensures { IsWord word.now after.now → IsText result word.now after.now }
+{
+    if is_short_number(word) && !goes_on(after) {
+        TokenKind::Number
+    } else {
+        TokenKind::Foreign
     }
 }
 
-/// The value of decimal digits; none where another byte stands among them or the value is above the greatest.
-fn number_value(word: &[u8]) -> Option<u32> {
-    let mut value = 0u32;
-    for byte in word {
-        match *byte {
-            b'0'..=b'9' => value = value * 10 + (*byte - b'0') as u32,
-            _ => return None,
-        }
-        if value > MAX_NUMBER {
-            return None;
-        }
+/// Whether `#` or `.` stands at the front.
+fn goes_on(after: &[u8]) -> bool
+    ensures { result ≡ begins spec.goes_on after.now }
+{
+    match after.split_first() {
+        None => false,
+        Some((byte, _)) => *byte == b'#' || *byte == b'.',
     }
-    Some(value)
+}
+
+fn is_decimal(byte: u8) -> bool
+    ensures { result ≡ is_digit byte }
+{
+    matches!(byte, b'0'..=b'9')
+}
+
+/// Whether the word is decimal digits of a value up to the greatest.
+fn is_short_number(word: &[u8]) -> bool
+    ensures { result ≡ part.is_short_number word.now }
+{
+    let mut value = 0u32;
+    let mut rest = word;
+    'digit: while let Some((byte, others)) = rest.split_first() {
+        if !is_decimal(*byte) {
+            return false;
+        }
+        value = value * 10 + (*byte - b'0') as u32;
+        if value > MAX_NUMBER {
+            return false;
+        }
+        rest = others;
+    }
+    true
 }

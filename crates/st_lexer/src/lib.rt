@@ -4,4 +4,4 @@
 mod cut;
 mod front;
 
-pub use cut::{LexFault, tokens};
+pub use cut::{LexFault, one_cut, tokens};

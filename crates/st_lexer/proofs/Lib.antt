@@ -1,0 +1,4 @@
+pub mod Words
+pub mod WordKinds
+pub mod Cuts
+pub mod OneCut
