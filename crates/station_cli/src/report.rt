@@ -1,7 +1,7 @@
 // The report on a file: its text is cut into tokens, parsed, planned and analysed.
 
-ghost use Rattle.std.specs.Prelude.{◌≡◌, ◌+◌, ◌≤◌, IfOk, length};
-ghost use Rattle.station_cli.specs.Reports.{IsCounted};
+ghost use Rattle.std.specs.Prelude.{◌≡◌, ℕ, List, IfOk, length};
+ghost use Rattle.station_cli.specs.Reports.{IsSound};
 ghost use Rattle.station_cli.specs.Parsing.{IsOneUnit};
 
 use cycle_analysis::{Solution, solve};
@@ -28,7 +28,7 @@ pub(crate) fn report_on<L: Ledger>(
     text: &FileText,
     steps: &mut Steps<L>,
 ) -> Result<Report, NoMemory>
-    ensures { IfOk result (λ report. IsCounted report) }
+    ensures { IfOk result (λ report. IsSound name.now text.now report) }
 {
     match tree_of(alloc, text, steps)? {
         Parsed::Tree(tree) => analysed(alloc, name, &tree, steps),
@@ -71,7 +71,7 @@ fn tree_of<L: Ledger>(
 
 /// The report on a file that is refused for a fault at a byte.
 fn refused(alloc: Global, name: &str, text: &FileText, fault: Fault) -> Result<Report, AllocError>
-    ensures { IfOk result (λ report. IsCounted report) }
+    ensures { IfOk result (λ report. IsSound name.now text.now report) }
 {
     let bytes = text.bytes();
     let position = line_of(bytes, fault.at.min(bytes.len()));
@@ -97,7 +97,7 @@ fn analysed<L: Ledger>(
     steps: &mut Steps<L>,
 ) -> Result<Report, NoMemory>
     requires { length tree.now.units ≡ 1 }
-    ensures { IfOk result (λ report. IsCounted report) }
+    ensures { IfOk result (λ report. (text : List ℕ) → IsSound name.now text report) }
 {
     let component = plan(alloc, tree)?;
     let grid = Grid::of(alloc, component.literals.as_slice())?;
@@ -198,6 +198,8 @@ fn add_lines(
     Ok(())
 }
 
-fn name_of(alloc: Global, bytes: &[u8]) -> Result<Name, AllocError> {
+fn name_of(alloc: Global, bytes: &[u8]) -> Result<Name, AllocError>
+    ensures { IfOk result (λ name. name ≡ bytes.now) }
+{
     Ok(Name::from_vec(bytes.to_vec(alloc)?))
 }
