@@ -1,36 +1,47 @@
 // The code of a body: its statements written out as instructions, each part in the order in which it is taken.
 
-ghost use Rattle.std.specs.Prelude.{◌≡◌};
+ghost use Rattle.std.specs.Prelude.{◌≡◌, ◌++◌, flat_map, IfOk, OnOk};
+ghost use Rattle.st_tree.specs.Code.{reading};
+ghost use Rattle.task_config.specs.Written.{place_in, kept_value, written_cell, written_value, written_stmt, written_body, written_literals, literals_of_stmt};
 
 use iec_tables::elem::Elem;
 use sqlite_items::Items;
-use st_tree::{Cell, Code, Expr, Literal, Number, Operation, Site, Stmt};
+use st_tree::{Cell, Code, Expr, Literal, Number, Operation, Path, Site, Stmt};
 use std::alloc::{AllocError, Global};
 use std::collections::BTreeMap;
 
-/// The cell of each variable, by its name.
-pub(crate) type Cells<'t> = BTreeMap<&'t [u8], Cell>;
-
-/// The cell of a name that no variable has.
-const NO_CELL: Cell = Cell::Own(usize::MAX);
+/// The place of the cell of each variable, by its name.
+pub(crate) type Cells<'t> = BTreeMap<&'t [u8], usize>;
 
 /// The instructions of statements. They are built from the last one on.
-pub(crate) fn body_code(
-    alloc: Global,
-    cells: &Cells<'_>,
-    body: &[Stmt],
-) -> Result<Code, AllocError> {
+pub(crate) fn body_code(alloc: Global, cells: &Cells<'_>, body: &[Stmt]) -> Result<Code, AllocError>
+    ensures { IfOk result (λ code. reading code ≡ written_body (place_in (λ key. key.now) cells.now) body.now) }
+{
     let mut code = Code::Done;
-    for statement in body.iter().rev() {
-        match statement {
-            Stmt::Assign(_, target, value) => {
-                let cell = cell_of(cells, target.root.name.bytes());
-                code = Code::Write(cell, Box::new(alloc, code)?);
-                code = value_code(alloc, cells, value, code)?;
-            }
-        }
+    let mut at = body.len();
+    while at > 0 {
+        at -= 1;
+        code = stmt_code(alloc, cells, &body[at], code)?;
     }
     Ok(code)
+}
+
+/// The instructions of a statement, before these ones.
+fn stmt_code(
+    alloc: Global,
+    cells: &Cells<'_>,
+    statement: &Stmt,
+    rest: Code,
+) -> Result<Code, AllocError>
+    ensures { IfOk result (λ code. reading code ≡ written_stmt (place_in (λ key. key.now) cells.now) statement.now (reading rest)) }
+{
+    match statement {
+        Stmt::Assign(_, target, value) => {
+            let cell = cell_of(cells, target);
+            let code = Code::Write(cell, Box::new(alloc, rest)?);
+            value_code(alloc, cells, value, code)
+        }
+    }
 }
 
 /// The instructions that put the value of an expression on the stack, before these ones.
@@ -39,7 +50,9 @@ fn value_code(
     cells: &Cells<'_>,
     whole: &Expr,
     rest: Code,
-) -> Result<Code, AllocError> {
+) -> Result<Code, AllocError>
+    ensures { IfOk result (λ code. reading code ≡ written_value (place_in (λ key. key.now) cells.now) whole.now (reading rest)) }
+{
     let mut code = rest;
     let mut value = whole;
     loop {
@@ -48,7 +61,7 @@ fn value_code(
                 return Ok(Code::Literal(number_of(*literal), Box::new(alloc, code)?));
             }
             Expr::Variable(path) => {
-                let cell = cell_of(cells, path.root.name.bytes());
+                let cell = cell_of(cells, path);
                 return Ok(Code::Read(cell, Box::new(alloc, code)?));
             }
             Expr::Binary(node, operator, left, right) => {
@@ -68,12 +81,20 @@ fn value_code(
     }
 }
 
-fn cell_of(cells: &Cells<'_>, name: &[u8]) -> Cell {
-    cells.get(name).copied().unwrap_or(NO_CELL)
+/// The cell of a variable. No cell has the largest place, which stands for a name that no variable has.
+fn cell_of(cells: &Cells<'_>, path: &Path) -> Cell
+    ensures { result ≡ written_cell (place_in (λ key. key.now) cells.now) path.now }
+{
+    match cells.get(path.root.name.bytes()) {
+        Some(place) => Cell::Own(*place),
+        None => Cell::Own(usize::MAX),
+    }
 }
 
 /// The value of a literal, its size kept at 2^127 - 1.
-fn number_of(literal: Literal) -> Number {
+fn number_of(literal: Literal) -> Number
+    ensures { result.value ≡ kept_value literal }
+{
     let size = i128::try_from(literal.size).unwrap_or(i128::MAX);
     Number {
         value: if literal.negative { -size } else { size },
@@ -81,10 +102,9 @@ fn number_of(literal: Literal) -> Number {
 }
 
 /// Adds the literals of these statements.
-pub(crate) fn collect_literals(
-    body: &[Stmt],
-    literals: &mut Items<i128>,
-) -> Result<(), AllocError> {
+pub(crate) fn collect_literals(body: &[Stmt], literals: &mut Items<i128>) -> Result<(), AllocError>
+    ensures { OnOk result (literals.new ≡ literals.old ++ flat_map literals_of_stmt body.now) }
+{
     for statement in body {
         match statement {
             Stmt::Assign(_, _, value) => collect_of_value(value, literals)?,
@@ -93,7 +113,9 @@ pub(crate) fn collect_literals(
     Ok(())
 }
 
-fn collect_of_value(whole: &Expr, literals: &mut Items<i128>) -> Result<(), AllocError> {
+fn collect_of_value(whole: &Expr, literals: &mut Items<i128>) -> Result<(), AllocError>
+    ensures { OnOk result (literals.new ≡ literals.old ++ written_literals whole.now) }
+{
     let mut value = whole;
     loop {
         match value {
