@@ -1,5 +1,5 @@
 -- Lists of intervals, read and written by index.
-use Rattle.std.proofs.Common.{◌≡◌, ℕ, zero, suc, ◌<◌, ◌≤◌, List, [], ◌∷◌, length, get_or, refl, ap, arith}
+use Rattle.std.proofs.Common.{◌≡◌, ℕ, zero, suc, ◌≤◌, List, [], ◌∷◌, length, get_or, refl, ap, arith}
 use Rattle.std.specs.Prelude.{slice_set}
 use Rattle.interval_domain.specs.Interval.{Interval, Empty}
 use Rattle.cycle_analysis.specs.Pass.{at, put}

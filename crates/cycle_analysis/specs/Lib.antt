@@ -2,3 +2,5 @@ pub mod Pass
 pub mod Fill
 pub mod Next
 pub mod Table
+pub mod Rows
+pub mod Solved

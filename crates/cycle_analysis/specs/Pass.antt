@@ -1,10 +1,9 @@
 -- One pass of the analysis over the code of a task: its structural meaning over intervals. Source: thread-modular abstract interpretation,
 -- in which a task reads its own view of a shared cell or what the other tasks write. The definition tells a log; the code fills a
 -- table as it goes.
-use Rattle.std.specs.Prelude.{◌≡◌, ℕ, zero, suc, Bool, true, false, if◌then◌else◌, List, [], ◌∷◌, ◌++◌, ℤ}
+use Rattle.std.specs.Prelude.{ℕ, zero, suc, if◌then◌else◌, List, [], ◌∷◌, ◌++◌}
 use Rattle.iec_tables.specs.declared.kind.Kind.{Kind}
 use Rattle.iec_tables.specs.declared.kind.Kind.TheVariants.{Overflow}
-use Rattle.iec_tables.specs.declared.elem.Elem.{Elem}
 use Rattle.interval_domain.specs.Interval.{Interval, Empty, Span, hull}
 use Rattle.interval_domain.specs.Operators.{range_of, add_raw, sub_raw, typed, is_alarmed}
 use Rattle.st_tree.specs.declared.code.Cell.{Cell}
