@@ -13,7 +13,8 @@ use Rattle.cycle_analysis.specs.declared.task_pass.Value.{Value}
 use Rattle.cycle_analysis.specs.declared.task_pass.Value.TheVariants.{Plain}
 use Rattle.cycle_analysis.specs.Pass.{Rely, log_at, operation_log, operation_value, raw_of, interval_of, unless_empty, assigned, read_value}
 use Rattle.cycle_analysis.specs.Table.{Each, IsClosed, IsClosedFor, IsTableWithin, IsPartWithin, part_at, no_part, hulls, pass_of}
-use Rattle.cycle_analysis.specs.Solved.{HasWritten, WritesCells, HasRanges, Answers}
+use Rattle.st_tree.specs.Writes.{HasWritten, WritesCells}
+use Rattle.cycle_analysis.specs.Solved.{HasRanges, Answers}
 use Rattle.std.specs.Prelude.{◌⊎◌, ℤ, slice_get, Some, IsPermutation}
 use Rattle.interval_domain.specs.Interval.{Interval, Empty, Span, IsWithin, hull}
 use Rattle.interval_domain.specs.Grid.{rounded}

@@ -7,11 +7,11 @@ use Rattle.iec_tables.specs.Kinds.{code_of}
 use Rattle.interval_domain.specs.Interval.{Interval, Empty, IsWithin, hull}
 use Rattle.interval_domain.specs.Grid.{rounded}
 use Rattle.st_tree.specs.declared.hit.Hit.{Hit}
-use Rattle.st_tree.specs.declared.code.Cell.TheVariants.{Own, Shared}
 use Rattle.st_tree.specs.declared.code.CellInfo.{CellInfo}
 use Rattle.st_tree.specs.declared.code.TaskCode.{TaskCode}
 use Rattle.st_tree.specs.declared.code.Component.{Component}
-use Rattle.st_tree.specs.Code.{Instructions, Done, Literal, Read, Operate, Write, reading}
+use Rattle.st_tree.specs.Code.{Instructions, reading}
+use Rattle.st_tree.specs.Writes.{WritesCells}
 use Rattle.cycle_analysis.specs.declared.row.Row.{Row}
 use Rattle.cycle_analysis.specs.declared.solution.Solution.{Solution}
 use Rattle.cycle_analysis.specs.declared.task_pass.Told.{Told}
@@ -26,20 +26,6 @@ head_of row = record { own = row.own.items; views = row.shared.items }
 -- the part that the answer is
 abbrev pub table_of : Solution → Part
 table_of s = record { cycle = head_of s.head; own = s.writes.own.items; shared = s.writes.shared.items }
-
--- each cell that the instructions write is there, of so many own cells and so many shared ones
-abbrev pub HasWritten : ℕ → ℕ → Instructions → Type 0
-HasWritten n m Done = Unit {0}
-HasWritten n m (Literal value rest) = HasWritten n m rest
-HasWritten n m (Read cell rest) = HasWritten n m rest
-HasWritten n m (Operate o rest) = HasWritten n m rest
-HasWritten n m (Write (Own k) rest) = (k < n) × HasWritten n m rest
-HasWritten n m (Write (Shared k) rest) = (k < m) × HasWritten n m rest
-
--- Each cell that a task writes is a cell of the component. No table is closed where a number is written to a cell that isn't there.
-abbrev pub WritesCells : Component → Type 0
-WritesCells component =
-    (me : ℕ) (task : TaskCode) → slice_get component.tasks me ≡ Some task → HasWritten (length task.cells) (length component.shared) (reading task.code)
 
 -- the alarms that a log tells, each with its range
 abbrev pub alarms_of : List Entry → List Hit

@@ -3,11 +3,12 @@
 
 ghost use Rattle.std.specs.Prelude.{◌≡◌, [], ◌∷◌, IfOk, OnOk, IsPermutation, List, length, slice_get};
 ghost use Rattle.st_tree.specs.Code.{reading};
+ghost use Rattle.st_tree.specs.Writes.{WritesCells};
 ghost use Rattle.st_tree.specs.declared.code.CellInfo.{CellInfo};
 ghost use Rattle.st_tree.specs.declared.code.TaskCode.{TaskCode};
 ghost use Rattle.cycle_analysis.specs.Fill.{all_noted, end_of, kept_of};
 ghost use Rattle.cycle_analysis.specs.Table.{IsBelow, IsClosed, IsSolution, IsTableWithin, Part, pass_of, points};
-ghost use Rattle.cycle_analysis.specs.Solved.{AreInOrder, HasRanges, IsLeastHead, IsRaisedFrom, IsRound, IsSolved, WritesCells, alarms_of, blank_of, head_of, pass_from, table_of};
+ghost use Rattle.cycle_analysis.specs.Solved.{AreInOrder, HasRanges, IsLeastHead, IsRaisedFrom, IsRound, IsSolved, alarms_of, blank_of, head_of, pass_from, table_of};
 
 use crate::row::Row;
 use crate::task_pass::{Point, Told, pass};
