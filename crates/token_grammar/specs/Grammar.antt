@@ -1,28 +1,37 @@
--- A grammar: which tokens, at which depths, spell which value. A rule reads like a line of the textual grammar of the standard. The code
--- descends with a token of look-ahead.
-use Rattle.std.specs.Prelude.{◌≡◌, ◌⊎◌, ℕ, zero, suc, ◌+◌, Bool, true, List, [], ◌∷◌, ◌++◌}
+-- A grammar: which lexemes, at which depths, spell which value. A rule reads like a line of the textual grammar of the standard. The
+-- code descends with a token of look-ahead.
+use Rattle.std.specs.Prelude.{◌≡◌, ◌⊎◌, ℕ, zero, suc, ◌+◌, ◌≤◌, ◌<◌, Bool, true, false, List, [], ◌∷◌, ◌++◌}
 use Rattle.token_grammar.specs.declared.token.TokenKind.{TokenKind}
-use Rattle.token_grammar.specs.declared.token.Token.{Token}
+use Rattle.token_grammar.specs.Texts.{Lexeme}
+use Rattle.token_grammar.specs.Kinds.{is_kind}
 
--- tokens, each with the depth at which it stands
+-- lexemes, each with the depth at which it stands
 abbrev pub Word : Type 0
-Word = List (Token × ℕ)
+Word = List (Lexeme × ℕ)
 
-abbrev pub tokens_of : Word → List Token
-tokens_of [] = []
-tokens_of (p ∷ w) = p.0 ∷ tokens_of w
+abbrev pub lexemes_of : Word → List Lexeme
+lexemes_of [] = []
+lexemes_of (p ∷ w) = p.0 ∷ lexemes_of w
 
 -- From the first depth on the word spells the value, and leaves the second depth.
 abbrev pub Rule : Type 0 → Type 1
 Rule A = ℕ → Word → A → ℕ → Type 0
 
--- no token at all
+-- nothing
 abbrev pub give : {A : Type 0} → A → Rule A
 give a d w x e = (w ≡ []) × (x ≡ a) × (e ≡ d)
 
--- a token of this kind
-abbrev pub token : TokenKind → Rule Token
-token kind d w t e = (w ≡ (t, d) ∷ []) × (t.kind ≡ kind) × (e ≡ d)
+-- A lexeme that passes the test stands `own` deeper than what is around it, and what follows is `more` deeper.
+abbrev pub token_as : (Lexeme → Bool) → (own more : ℕ) → Rule Lexeme
+token_as test own more d w t e = (w ≡ (t, d + own) ∷ []) × (test t ≡ true) × (e ≡ d + more)
+
+-- a lexeme that passes the test
+abbrev pub token_that : (Lexeme → Bool) → Rule Lexeme
+token_that test = token_as test 0 0
+
+-- a lexeme of this kind
+abbrev pub token : TokenKind → Rule Lexeme
+token k = token_that (is_kind k)
 
 -- one after the other
 infixl 10 ◌>>=◌
@@ -33,10 +42,6 @@ abbrev pub ◌>>=◌ : {A B : Type 0} → Rule A → (A → Rule B) → Rule B
 infixl 9 ◌or◌
 abbrev pub ◌or◌ : {A : Type 0} → Rule A → Rule A → Rule A
 (L or M) d w x e = L d w x e ⊎ M d w x e
-
--- only where the value passes the test
-abbrev pub only : {A : Type 0} → (A → Bool) → Rule A → Rule A
-only test L d w x e = L d w x e × (test x ≡ true)
 
 -- so many times
 abbrev pub times : {A : Type 0} → (A → Rule A) → ℕ → A → Rule A
@@ -57,25 +62,43 @@ end_of [] = 0
 end_of (p ∷ []) = p.0.end
 end_of (p ∷ q ∷ w) = end_of (q ∷ w)
 
--- The tokens begin a rule: with some more they spell it.
-pub record Begins {A : Type 0} (L : Rule A) (ts : List Token) : Type 0 where
+-- a value made of the first byte, the byte after the last, and what is spelled
+abbrev pub node : {A B : Type 0} → (ℕ → ℕ → A → B) → Rule A → Rule B
+node make L d w y e = (x : _) × L d w x e × (y ≡ make (start_of w) (end_of w) x)
+
+-- The lexemes begin a rule: with some more they spell it.
+pub record Begins {A : Type 0} (L : Rule A) (d : ℕ) (ts : List Lexeme) : Type 0 where
   pub word : Word
   pub more : Word
   pub value : A
   pub depth : ℕ
-  pub tokens : tokens_of word ≡ ts
-  pub spelled : L 0 (word ++ more) value depth
+  pub tokens : lexemes_of word ≡ ts
+  pub spelled : L d (word ++ more) value depth
 
--- The tokens spell the value.
-pub record Spells {A : Type 0} (L : Rule A) (ts : List Token) (x : A) : Type 0 where
+-- With the next lexeme they no longer do.
+abbrev pub Stops : {A : Type 0} → Rule A → ℕ → List Lexeme → List Lexeme → Type 0
+Stops L d front rest = (t : Lexeme) (after : List Lexeme) → rest ≡ t ∷ after → Begins L d (front ++ t ∷ []) → ⊥
+
+-- the greatest depth of a token
+abbrev pub max_depth : ℕ
+max_depth = 256
+
+-- no lexeme stands too deep
+abbrev pub Within : Word → Type 0
+Within [] = Unit {0}
+Within (p ∷ w) = (p.1 ≤ max_depth) × Within w
+
+-- The lexemes spell the value, none of them too deep.
+pub record Spells {A : Type 0} (L : Rule A) (ts : List Lexeme) (x : A) : Type 0 where
   pub word : Word
   pub depth : ℕ
-  pub tokens : tokens_of word ≡ ts
+  pub tokens : lexemes_of word ≡ ts
   pub spelled : L 0 word x depth
+  pub within : Within word
 
--- The tokens up to the rest begin the rule, and with the next one they no longer do.
-pub record Stops {A : Type 0} (L : Rule A) (ts rest : List Token) : Type 0 where
-  pub front : List Token
+-- The lexemes up to the rest begin the rule, and with the next one they no longer do.
+pub record IsLongest {A : Type 0} (L : Rule A) (ts rest : List Lexeme) : Type 0 where
+  pub front : List Lexeme
   pub tokens : ts ≡ front ++ rest
-  pub begun : Begins L front
-  pub longest : (t : Token) (after : List Token) → rest ≡ t ∷ after → Begins L (front ++ t ∷ []) → ⊥
+  pub begun : Begins L 0 front
+  pub stops : Stops L 0 front rest

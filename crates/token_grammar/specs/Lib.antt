@@ -1,2 +1,4 @@
 pub mod Texts
+pub mod Kinds
 pub mod Grammar
+pub mod Input

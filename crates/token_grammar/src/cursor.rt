@@ -1,47 +1,83 @@
 // What is still to be read of a list of tokens.
 
-ghost use Rattle.std.specs.Prelude.{◌≡◌, ◌+◌, ◌≤◌, OnOk, OnErr, length, IfOk, ◌∷◌};
+ghost use Rattle.std.specs.Prelude.{◌≡◌, ◌≤◌, ◌-◌, OnOk, take, drop};
+ghost use Rattle.token_grammar.specs.Kinds as kinds;
+ghost use Rattle.token_grammar.specs.Input as spec;
+ghost use Rattle.token_grammar.specs.Input.{ReadsAs, view};
+ghost use Rattle.token_grammar.specs.Texts.{lexeme};
 
+use crate::fault::ParseError;
 use crate::token::{Token, TokenKind};
 
+/// How deep a text may nest.
+pub const MAX_DEPTH: usize = 256;
+
 /// The tokens that are still to be read of a text.
-#[derive(Clone, Copy)]
+#[derive(Drop)]
 pub struct Cursor<'t> {
     pub text: &'t [u8],
     pub rest: &'t [Token],
+    /// The end of the last token that was read, in bytes.
+    pub last: usize,
+    /// How deep the next token stands.
+    pub depth: usize,
 }
 
 impl<'t> Cursor<'t> {
-    /// The kind of the next token.
-    pub fn peek(&self) -> Option<TokenKind> {
+    /// Whether the next token is of this kind.
+    pub fn sees(&self, kind: TokenKind) -> bool
+        ensures { result ≡ spec.sees_in kind (view self.now).rest }
+    {
         match self.rest.split_first() {
-            None => None,
-            Some((token, _)) => Some(token.kind),
+            None => false,
+            Some((token, _)) => same_kind(token.kind, kind),
         }
     }
 
-    /// The first byte of the next token, or the text's length where there is none.
-    pub fn place(&self) -> usize {
+    /// The first byte of the next token, or the end of the last one.
+    pub fn start(&self) -> usize
+        ensures { result ≡ spec.start (view self.now) }
+    {
         match self.rest.split_first() {
-            None => self.text.len(),
+            None => self.last,
             Some((token, _)) => token.start,
         }
     }
 
-    /// Takes the next token if it is of this kind. Where it isn't, the cursor stays.
-    pub fn take(&mut self, kind: TokenKind) -> Option<Token> {
+    /// Takes a token of this kind.
+    pub fn take(&mut self, kind: TokenKind) -> Result<Token, ParseError>
+        ensures text { self.new.text ≡ self.old.text }
+        ensures reads { ReadsAs (lexeme self.old.text.now) (spec.take kind (view self.old)) result (view self.new) }
+    {
         match self.rest.split_first() {
-            Some((token, rest)) if token.kind == kind => {
+            None => Err(ParseError::Grammar),
+            Some((token, rest)) => {
+                if !same_kind(token.kind, kind) {
+                    return Err(ParseError::Grammar);
+                }
+                if self.depth > MAX_DEPTH {
+                    return Err(ParseError::TooDeep);
+                }
                 self.rest = rest;
-                Some(*token)
+                self.last = token.end;
+                Ok(*token)
             }
-            _ => None,
         }
     }
 
     /// The bytes of a token of this text.
-    pub fn bytes(&self, token: Token) -> &'t [u8] {
+    pub fn bytes(&self, token: Token) -> &'t [u8]
+        ensures { result.now ≡ (lexeme self.now.text.now token).bytes }
+    {
         let text = self.text;
-        text.get(token.start..token.end).unwrap_or(&[])
+        let from = &text[token.start.min(text.len())..];
+        let length = token.end.saturating_sub(token.start);
+        &from[..length.min(from.len())]
     }
+}
+
+fn same_kind(a: TokenKind, b: TokenKind) -> bool
+    ensures { result ≡ kinds.same_kind a b }
+{
+    a as u8 == b as u8
 }

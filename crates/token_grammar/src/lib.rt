@@ -1,8 +1,10 @@
-//! Tokens, and the cursor that parsers read them with.
+//! Tokens, the cursor that parsers read them with, and the grammar that they meet.
 #![tactic(auto)]
 
 mod cursor;
+mod fault;
 mod token;
 
-pub use cursor::Cursor;
+pub use cursor::{Cursor, MAX_DEPTH};
+pub use fault::ParseError;
 pub use token::{Token, TokenKind, Tokens};
