@@ -1,1 +1,5 @@
 pub mod Lines
+pub mod Numbers
+pub mod Parts
+pub mod Heads
+pub mod Nested

@@ -36,6 +36,10 @@ IsPosition text at line column = IsBehind (take at text) line column
 
 -- ---- the node that a node is reported at
 
+-- whether the node of that number is one of these
+abbrev pub has_number : NodeNo → List Node → Bool
+has_number number nodes = list_any (λ node. nat_eq node.number.0 number.0) nodes
+
 -- a declaration name, statement or unit, and the nodes that it holds
 pub record Holder : Type 0 where
   pub node : Node
@@ -65,7 +69,7 @@ unit_holders unit =
     ∷ (flat_map (λ section. flat_map decl_holders section.decls) unit.sections ++ map stmt_holder unit.body)
 
 abbrev pub holds : NodeNo → Holder → Bool
-holds number holder = list_any (λ node. nat_eq node.number.0 number.0) holder.held
+holds number holder = has_number number holder.held
 
 abbrev pub last_of : List Holder → Option Node
 last_of [] = None

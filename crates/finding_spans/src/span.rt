@@ -1,7 +1,13 @@
 // The places of nodes and bytes in a file.
 
-ghost use Rattle.std.specs.Prelude.{◌≡◌, ◌≤◌, ℕ, ◌+◌, List, [], ◌∷◌, ◌++◌, length};
-ghost use Rattle.finding_spans.specs.Places.{IsPosition, IsBehind};
+ghost use Rattle.std.specs.Prelude.{◌≡◌, ◌≤◌, ◌<◌, ℕ, ◌+◌, true, false, List, [], ◌∷◌, ◌++◌, length, map, flat_map, Contains, IsSomeAnd};
+ghost use Rattle.std.specs.List.{find, filter};
+ghost use Rattle.std.specs.Option.{option_copied};
+ghost use Rattle.st_tree.specs.declared.tree.Unit.{Unit as SourceUnit};
+ghost use Rattle.st_tree.specs.declared.tree.Stmt.{Stmt as Statement};
+ghost use Rattle.st_tree.specs.Nodes.{IsNumbered, nodes_of, unit_nodes, stmt_nodes, section_nodes, decl_nodes};
+ghost use Rattle.finding_spans.specs.Places.{IsPosition, IsBehind, IsReportedAt, has_number, holds, last_of, holder_of, decl_holders, unit_holders, stmt_node};
+ghost use Rattle.finding_spans.specs.Searches.{IsAmong, last_of_first};
 
 use st_tree::{Decl, Node, NodeNo, SourceTree, Stmt, Unit};
 
@@ -74,7 +80,11 @@ pub fn place(tree: &SourceTree, node: NodeNo) -> Span {
 }
 
 /// The statement that holds a node, and its unit.
-pub fn statement_of(tree: &SourceTree, node: NodeNo) -> Option<(&Unit, &Stmt)> {
+pub fn statement_of(tree: &SourceTree, node: NodeNo) -> Option<(&Unit, &Stmt)>
+    ensures { IsNumbered tree.now → (unit : SourceUnit) (stmt : Statement) → Contains tree.now.units unit → Contains unit.body stmt →
+        Contains (map (λ n. n.number) (stmt_nodes stmt)) node →
+        IsSomeAnd result (λ found. (found.0.now ≡ unit) × (found.1.now ≡ stmt)) }
+{
     let unit = unit_of(tree, node)?;
     let statement = statement_in(unit, node)?;
     Some((unit, statement))
@@ -84,33 +94,46 @@ pub fn statement_of(tree: &SourceTree, node: NodeNo) -> Option<(&Unit, &Stmt)> {
 fn holder(tree: &SourceTree, node: NodeNo) -> Option<Node> {
     let unit = unit_of(tree, node)?;
     match statement_in(unit, node) {
-        Some(Stmt::Assign(statement, _, _)) => Some(*statement),
+        Some(statement) => Some(own_node(statement)),
         None => Some(declaration_holder(unit, node).unwrap_or(unit.node)),
     }
 }
 
-fn unit_of(tree: &SourceTree, node: NodeNo) -> Option<&Unit> {
+/// The unit that holds the node.
+fn unit_of(tree: &SourceTree, node: NodeNo) -> Option<&Unit>
+    ensures { IsAmong node (nodes_of tree.now) → option_copied result ≡ find (λ unit. has_number node (unit_nodes unit)) tree.now.units }
+{
     let units = tree.units.as_slice();
     let count = units.partition_point(|unit| unit.node.number.0 <= node.0);
-    units.get(count.checked_sub(1)?)
+    last_of_first(units, count)
 }
 
-fn statement_in(unit: &Unit, node: NodeNo) -> Option<&Stmt> {
+/// The statement of the unit that holds the node.
+fn statement_in(unit: &Unit, node: NodeNo) -> Option<&Stmt>
+    ensures { IsAmong node (unit_nodes unit.now) → option_copied result ≡ find (λ stmt. has_number node (stmt_nodes stmt)) unit.now.body }
+{
     let body = unit.body.as_slice();
-    let count = body.partition_point(|statement| match statement {
-        Stmt::Assign(place, _, _) => place.number.0 <= node.0,
-    });
-    body.get(count.checked_sub(1)?)
+    let count = body.partition_point(|statement| own_node(statement).number.0 <= node.0);
+    last_of_first(body, count)
+}
+
+/// The node of a statement itself.
+fn own_node(statement: &Stmt) -> Node
+    ensures { result ≡ stmt_node statement.now }
+{
+    match statement {
+        Stmt::Assign(node, _, _) => *node,
+    }
 }
 
 /// The declaration name that holds the node.
 fn declaration_holder(unit: &Unit, node: NodeNo) -> Option<Node> {
     let sections = unit.sections.as_slice();
     let count = sections.partition_point(|section| section.node.number.0 <= node.0);
-    let section = sections.get(count.checked_sub(1)?)?;
+    let section = last_of_first(sections, count)?;
     let decls = section.decls.as_slice();
     let count = decls.partition_point(|decl| decl.node.number.0 <= node.0);
-    let decl = decls.get(count.checked_sub(1)?)?;
+    let decl = last_of_first(decls, count)?;
     name_holder(decl, node)
 }
 
@@ -122,6 +145,13 @@ fn name_holder(decl: &Decl, node: NodeNo) -> Option<Node> {
         Some(name) if name.node.number == node => Some(name.node),
         _ => Some(names.first()?.node),
     }
+}
+
+/// The last of the first so many.
+fn last_of_first<T>(items: &[T], count: usize) -> Option<&T>
+    ensures { option_copied result ≡ last_of_first items.now count }
+{
+    items.get(count.checked_sub(1)?)
 }
 
 /// The span of a node, by the places of its file's line feeds.
