@@ -1,18 +1,19 @@
 -- The parts of a unit, in their order.
-use Rattle.std.proofs.Common.{◌≡◌, ℕ, suc, ◌+◌, ◌<◌, ◌≤◌, Bool, true, false, List, [], ◌∷◌, ◌++◌, length, Option, Some, None, refl, ap, sym, ◌∙◌, subst, arith}
+use Rattle.std.proofs.Common.{◌≡◌, ℕ, suc, ◌+◌, ◌<◌, Bool, true, false, List, ◌∷◌, ◌++◌, length, Option, Some, refl, ◌∙◌, subst, inl, inr, arith}
 use Rattle.std.specs.Prelude.{map, flat_map, nat_eq, Contains}
 use Rattle.std.specs.List.{find}
-use Rattle.std.proofs.lemmas.Bool.{or_left, or_right}
+use Rattle.std.proofs.lemmas.Bool.{or_right, both_ways, cases_lt}
 use Rattle.std.proofs.lemmas.List.{length-append}
 use Rattle.st_tree.specs.declared.node.Node.{Node}
 use Rattle.st_tree.specs.declared.node.NodeNo.{NodeNo}
 use Rattle.st_tree.specs.declared.tree.Stmt.{Stmt}
+use Rattle.st_tree.specs.declared.tree.Section.{Section}
 use Rattle.st_tree.specs.declared.tree.Unit.{Unit as SourceUnit}
 use Rattle.st_tree.specs.declared.tree.SourceTree.{SourceTree}
-use Rattle.st_tree.specs.Nodes.{CountsFrom, IsNumbered, section_nodes, stmt_nodes, unit_nodes, nodes_of}
+use Rattle.st_tree.specs.Nodes.{CountsFrom, IsNumbered, stmt_nodes, decl_nodes, section_nodes, unit_nodes, nodes_of}
 use Rattle.finding_spans.specs.Places.{has_number}
 use Rattle.finding_spans.specs.Searches.{IsAmong}
-use Rattle.finding_spans.proofs.Numbers.{counts_left, counts_right, has_in, has_from, has_not, apart, has_of_numbers}
+use Rattle.finding_spans.proofs.Numbers.{counts_left, counts_right, has_in, has_from, has_of_numbers}
 use Rattle.finding_spans.proofs.Parts.{has_append, has_part, found, part_of}
 
 -- The nodes are numbered one after the other, and none of the numbers up to that one lies past them.
@@ -32,6 +33,27 @@ body_counts number unit among =
       counts = counts_right (suc (suc among.from)) sections body among.counts.1.1;
       below = omega arith;
     }
+
+pub section_counts : (number : NodeNo) (unit : SourceUnit) → IsAmong number (unit_nodes unit) → has_number number (flat_map stmt_nodes unit.body) ≡ false → Reach number (flat_map section_nodes unit.sections)
+section_counts number unit among none =
+    let sections : List Node = flat_map section_nodes unit.sections in
+    let body : List Node = flat_map stmt_nodes unit.body in
+    let from : ℕ = suc (suc among.from) in
+    let within = has_in among.from number (unit_nodes unit) among.counts among.has in
+    let total : length (sections ++ body) ≡ length sections + length body = length-append sections body in
+    record {
+      from = from;
+      counts = counts_left from sections body among.counts.1.1;
+      below = elim (cases_lt number.0 (from + length sections)) [
+        | inl l ↦ l
+        | inr l ↦ absurd (both_ways _ none (has_from (from + length sections) number body (counts_right from sections body among.counts.1.1) l (omega arith)))
+      ];
+    }
+
+pub decl_counts : (number : NodeNo) (section : Section) → IsAmong number (section_nodes section) → Reach number (flat_map decl_nodes section.decls)
+decl_counts number section among =
+    let within = has_in among.from number (section_nodes section) among.counts among.has in
+    record { from = suc among.from; counts = among.counts.1; below = omega arith }
 
 -- what stands in the sections or the body stands in the unit
 in_unit : (number : NodeNo) (unit : SourceUnit) → has_number number (flat_map section_nodes unit.sections ++ flat_map stmt_nodes unit.body) ≡ true → has_number number (unit_nodes unit) ≡ true

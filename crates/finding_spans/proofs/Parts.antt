@@ -1,13 +1,11 @@
 -- A list of items, each with its nodes, where the nodes of all are numbered one after the other.
-use Rattle.std.proofs.Common.{◌≡◌, ◌⊎◌, ℕ, zero, suc, ◌+◌, ◌<◌, ◌≤◌, Bool, true, false, ◌||◌, cond, leb, List, [], ◌∷◌, ◌++◌, length, get_or, Option, Some, None, refl, ap, sym, ◌∙◌, subst, inl, inr, append-nil, arith}
-use Rattle.std.proofs.lemmas.Bool.{false≢true, true≢false, cases_Bool, or_left, or_right, or_from, or_parts, cond-true, cond-false, le-leb, lt-leb, both_ways, cases_lt}
+use Rattle.std.proofs.Common.{◌≡◌, ℕ, zero, suc, ◌+◌, ◌<◌, ◌≤◌, Bool, true, false, ◌||◌, leb, List, [], ◌∷◌, ◌++◌, length, get_or, Option, Some, None, refl, ap, sym, ◌∙◌, subst, inl, inr, append-nil, arith}
+use Rattle.std.proofs.lemmas.Bool.{cases_Bool, or_right, or_parts, cond-true, cond-false, le-leb, lt-leb, both_ways, cases_lt}
 use Rattle.std.proofs.lemmas.Option.{same_Some, none-some}
 use Rattle.std.proofs.lemmas.List.{length-append}
-use Rattle.std.proofs.lemmas.List.Concat.{flat_map-cons}
 use Rattle.std.proofs.lemmas.List.Elements.{filter-append}
 use Rattle.std.proofs.lemmas.List.Folds.{list_any-append}
-use Rattle.std.proofs.lemmas.List.Sums.{prefix_len_is}
-use Rattle.std.specs.Prelude.{flat_map, Contains, nat_eq, slice_get}
+use Rattle.std.specs.Prelude.{flat_map, Contains, nat_eq}
 use Rattle.std.specs.List.{find, filter, prefix_len}
 use Rattle.std.specs.List.Sorted.{IsNonDecreasingBy, IsPartitionedBy, IsPartitionPoint}
 use Rattle.std.proofs.lemmas.List.Sorted.{IsPartitionedBy-leb}
@@ -16,14 +14,11 @@ use Rattle.st_tree.specs.declared.node.NodeNo.{NodeNo}
 use Rattle.st_tree.specs.Nodes.{CountsFrom}
 use Rattle.finding_spans.specs.Places.{Holder, has_number, holds}
 use Rattle.finding_spans.specs.Searches.{IsAmong, last_of_first}
-use Rattle.finding_spans.proofs.Numbers.{counts_left, counts_right, has_in, has_from, has_not, has_beyond, apart, contains_cases}
+use Rattle.finding_spans.proofs.Points.{point_is, rising_cons}
+use Rattle.finding_spans.proofs.Numbers.{counts_left, counts_right, has_from, has_not, has_beyond, apart, contains_cases}
 
 pub has_append : (number : NodeNo) (xs ys : List Node) (b c : Bool) → has_number number xs ≡ b → has_number number ys ≡ c → has_number number (xs ++ ys) ≡ (b || c)
 has_append number xs ys b c d e = list_any-append (λ node. nat_eq node.number.0 number.0) xs ys ∙ ap (λ (v : Bool). v || has_number number ys) d ∙ ap (λ (v : Bool). b || v) e
-
-pub point_is : {X : Type 0} (p : X → Bool) (xs : List X) (count : ℕ) → count ≤ length xs → IsPartitionPoint (λ x. p x ≡ true) (λ x. p x ≡ false) xs count → prefix_len p xs ≡ count
-point_is p [] count bound point = omega arith
-point_is p (x ∷ xs) count bound point = prefix_len_is p (x ∷ xs) count x bound (λ k l. point.0 k x (omega arith) l) (λ l. point.1 count x (omega arith) l)
 
 module _ {X : Type 0} (f : X → List Node) (number : NodeNo) where
   abbrev pub with_node : List X → Option X
@@ -53,6 +48,14 @@ module _ {X : Type 0} (f : X → List Node) (number : NodeNo) where
         | inr e ↦
             has_append number (f y) (flat_map f xs) (has_number number (f y)) true refl (has_part xs x e h)
             ∙ or_right (has_number number (f y)) true refl
+      ]
+
+  pub has_found : (xs : List X) (x : X) → with_node xs ≡ Some x → has_number number (flat_map f xs) ≡ true
+  has_found [] x h = absurd (none-some x h)
+  has_found (y ∷ xs) x h =
+      elim (cases_Bool (has_number number (f y))) [
+        | inl e ↦ has_append number (f y) (flat_map f xs) true (has_number number (flat_map f xs)) e refl
+        | inr e ↦ has_append number (f y) (flat_map f xs) false true e (has_found xs x (sym (later_has y xs e) ∙ h))
       ]
 
   pub part_of : (n : ℕ) (xs : List X) (x : X) → CountsFrom n (flat_map f xs) → with_node xs ≡ Some x → IsAmong number (f x)
@@ -168,18 +171,12 @@ module _ {X : Type 0} (f : X → List Node) (number : NodeNo) where
         let ih = no_earlier (n + length (f x)) xs (counts_right n (f x) (flat_map f xs) c) j d (omega arith) in
         omega arith
 
-    rising_more : (n : ℕ) (x : X) (xs : List X) → CountsFrom n (flat_map f (x ∷ xs)) → IsNonDecreasingBy key xs → IsNonDecreasingBy key (x ∷ xs)
-    rising_more n x xs c h zero zero d l m = omega arith
-    rising_more n x xs c h zero (suc j) d l m =
-        let at : key x ≡ n = (key_is n x xs c).0 in
-        let k = no_earlier (n + length (f x)) xs (counts_right n (f x) (flat_map f xs) c) j d (omega arith) in
-        omega arith
-    rising_more n x xs c h (suc i) zero d l m = absurd (omega arith)
-    rising_more n x xs c h (suc i) (suc j) d l m = h i j d (omega arith) (omega arith)
-
     rising : (n : ℕ) (xs : List X) → CountsFrom n (flat_map f xs) → IsNonDecreasingBy key xs
     rising n [] c = λ i j d l h. absurd (omega arith)
-    rising n (x ∷ xs) c = rising_more n x xs c (rising (n + length (f x)) xs (counts_right n (f x) (flat_map f xs) c))
+    rising n (x ∷ xs) c =
+        let at : key x ≡ n = (key_is n x xs c).0 in
+        let later = counts_right n (f x) (flat_map f xs) c in
+        rising_cons key x xs (λ j d l. let k = no_earlier (n + length (f x)) xs later j d l in omega arith) (rising (n + length (f x)) xs later)
 
     -- what `partition_point` answers of a slice that holds the items, where its closure computes `begun`
     pub point_found : (n : ℕ) (xs slice : List X) (count : ℕ) → CountsFrom n (flat_map f xs) → number.0 < n + length (flat_map f xs) → slice ≡ xs → count ≤ length slice

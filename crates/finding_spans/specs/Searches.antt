@@ -1,6 +1,6 @@
 -- What the searches by halves find, as the first item of a list that holds a node. Source: this profile. The code compares the number of
 -- the node with those of the items' first nodes.
-use Rattle.std.specs.Prelude.{◌≡◌, ℕ, zero, suc, true, List, Option, Some, None, slice_get}
+use Rattle.std.specs.Prelude.{◌≡◌, ℕ, zero, suc, true, List, Option, None, slice_get}
 use Rattle.st_tree.specs.declared.node.Node.{Node}
 use Rattle.st_tree.specs.declared.node.NodeNo.{NodeNo}
 use Rattle.st_tree.specs.Nodes.{CountsFrom}

@@ -1,4 +1,4 @@
-use Rattle.std.proofs.Common.{◌∙◌, leb, rules, arith}
+use Rattle.std.proofs.Common.{◌∙◌, leb, rules}
 use Rattle.std.proofs.lemmas.List.Sorted.{IsPartitionPoint-from_clause}
 use Rattle.st_tree.specs.Nodes.{unit_nodes, nodes_of}
 use Rattle.finding_spans.proofs.Heads.{unit_rest, unit_is}
