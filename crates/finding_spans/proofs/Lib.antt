@@ -1,1 +1,9 @@
 pub mod Lines
+pub mod Points
+pub mod Numbers
+pub mod Parts
+pub mod Heads
+pub mod Nested
+pub mod Names
+pub mod Holders
+pub mod Feeds

@@ -1,5 +1,5 @@
 -- Positions, byte by byte.
-use Rattle.std.proofs.Common.{◌≡◌, ℕ, ◌+◌, List, [], ◌∷◌, ◌++◌, length, refl, ap, sym, ◌∙◌, inl, inr, append_assoc, length-append, add_assoc, zero-add, arith, Bool, true, false}
+use Rattle.std.proofs.Common.{◌≡◌, ℕ, ◌+◌, List, [], ◌∷◌, ◌++◌, length, refl, ap, sym, ◌∙◌, inl, inr, append_assoc, length-append, add_assoc, zero-add, arith, false}
 use Rattle.std.specs.Prelude.{nat_eq, if◌then◌else◌}
 use Rattle.std.proofs.lemmas.List.{append-nil}
 use Rattle.finding_spans.specs.Places.{feeds, IsBehind}
@@ -7,7 +7,7 @@ use Rattle.finding_spans.specs.Places.{feeds, IsBehind}
 pub first : IsBehind [] 1 1
 first = record { lines = []; part = []; bytes = refl; whole = inl refl; one = refl; line_is = refl; column_is = refl }
 
-feeds_append : (xs ys : List ℕ) → feeds (xs ++ ys) ≡ feeds xs + feeds ys
+pub feeds_append : (xs ys : List ℕ) → feeds (xs ++ ys) ≡ feeds xs + feeds ys
 feeds_append [] ys = sym (zero-add (feeds ys))
 feeds_append (x ∷ xs) ys = ap (λ n. (if nat_eq x 10 then 1 else 0) + n) (feeds_append xs ys) ∙ sym (add_assoc (if nat_eq x 10 then 1 else 0) (feeds xs) (feeds ys))
 
@@ -29,7 +29,7 @@ behind_feed before line column next e h =
       column_is = refl;
     }
 
-no_feed : (byte : ℕ) → nat_eq byte 10 ≡ false → feeds (byte ∷ []) ≡ 0
+pub no_feed : (byte : ℕ) → nat_eq byte 10 ≡ false → feeds (byte ∷ []) ≡ 0
 no_feed byte e = ap (λ b. (if b then 1 else 0) + 0) e
 
 pub behind_byte : (before : List ℕ) (byte line column next : ℕ) → nat_eq byte 10 ≡ false → next ≡ column + 1 → IsBehind before line column → IsBehind (before ++ byte ∷ []) line next

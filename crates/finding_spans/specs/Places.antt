@@ -4,11 +4,9 @@ use Rattle.std.specs.Prelude.{◌≡◌, ◌⊎◌, ℕ, ◌+◌, Bool, nat_eq, 
 use Rattle.std.specs.List.{list_any, filter}
 use Rattle.st_tree.specs.declared.node.Node.{Node}
 use Rattle.st_tree.specs.declared.node.NodeNo.{NodeNo}
-use Rattle.st_tree.specs.declared.tree.Identifier.{Identifier}
 use Rattle.st_tree.specs.declared.tree.Stmt.{Stmt}
 use Rattle.st_tree.specs.declared.tree.Stmt.TheVariants.{Assign}
 use Rattle.st_tree.specs.declared.tree.Decl.{Decl}
-use Rattle.st_tree.specs.declared.tree.Section.{Section}
 use Rattle.st_tree.specs.declared.tree.Unit.{Unit as SourceUnit}
 use Rattle.st_tree.specs.declared.tree.SourceTree.{SourceTree}
 use Rattle.st_tree.specs.Nodes.{stmt_nodes, decl_nodes, unit_nodes, name_node}
@@ -35,6 +33,10 @@ abbrev pub IsPosition : List ℕ → (at line column : ℕ) → Type 0
 IsPosition text at line column = IsBehind (take at text) line column
 
 -- ---- the node that a node is reported at
+
+-- whether the node of that number is one of these
+abbrev pub has_number : NodeNo → List Node → Bool
+has_number number nodes = list_any (λ node. nat_eq node.number.0 number.0) nodes
 
 -- a declaration name, statement or unit, and the nodes that it holds
 pub record Holder : Type 0 where
@@ -65,7 +67,7 @@ unit_holders unit =
     ∷ (flat_map (λ section. flat_map decl_holders section.decls) unit.sections ++ map stmt_holder unit.body)
 
 abbrev pub holds : NodeNo → Holder → Bool
-holds number holder = list_any (λ node. nat_eq node.number.0 number.0) holder.held
+holds number holder = has_number number holder.held
 
 abbrev pub last_of : List Holder → Option Node
 last_of [] = None
