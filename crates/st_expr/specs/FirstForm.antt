@@ -10,14 +10,13 @@
 --
 -- A name is declared once, and a path names a declared variable. A minus before a number is part of the literal. Sums group to the
 -- left. The code reads the tokens once and numbers the nodes as it goes.
-use Rattle.std.specs.Prelude.{◌≡◌, ◌⊎◌, ℕ, suc, ◌+◌, if◌then◌else◌, Bool, true, false, not, ◌==◌, nat_eq, bytes_eq, List, [], ◌∷◌, ◌++◌, length, map, flat_map}
-use Rattle.std.specs.List.{list_any}
+use Rattle.std.specs.Prelude.{◌≡◌, ℕ, ◌-◌, ◌^◌, min, ◌&&◌, Bool, true, false, not, List, [], ◌∷◌, ◌++◌, length}
 use Rattle.iec_tables.specs.declared.elem.Elem.TheVariants as elem
 use Rattle.token_grammar.specs.declared.token.TokenKind.TheVariants.{Program, EndProgram, Var, EndVar, Int, Name, Number, Becomes, Colon, Comma, Semicolon, Plus, Minus}
 use Rattle.token_grammar.specs.declared.token.Token.{Token}
-use Rattle.token_grammar.specs.Texts.{bytes_of, name_of, number_of}
-use Rattle.token_grammar.specs.Grammar.{Word, Rule, give, token, ◌>>=◌, ◌or◌, only, many, start_of, end_of, Spells, Stops}
-use Rattle.st_tree.specs.declared.node.Node.{Node}
+use Rattle.token_grammar.specs.Texts.{Lexeme, lexemes, name_of, number_of}
+use Rattle.token_grammar.specs.Kinds.{is_kind}
+use Rattle.token_grammar.specs.Grammar.{Rule, give, token, token_that, ◌>>=◌, ◌or◌, many, node, Spells, IsLongest}
 use Rattle.st_tree.specs.declared.tree.Identifier.{Identifier}
 use Rattle.st_tree.specs.declared.tree.Path.{Path}
 use Rattle.st_tree.specs.declared.tree.Literal.{Literal}
@@ -33,142 +32,43 @@ use Rattle.st_tree.specs.declared.tree.Section.{Section}
 use Rattle.st_tree.specs.declared.tree.Unit.{Unit as SourceUnit}
 use Rattle.st_tree.specs.declared.tree.SourceTree.{SourceTree}
 use Rattle.st_tree.specs.Nodes.{IsNumbered, place_of}
+use Rattle.st_tree.specs.Bare.{node_at, bare_unit}
+use Rattle.st_tree.specs.Names.{Names, has, names_of, declared, declared_in}
+use Rattle.st_tree.specs.Feeds.{feeds_from}
 
--- a node that begins and ends with what is spelled; its number is told apart
-pub record IsNodeOf (node : Node) (w : Word) : Type 0 where
-  pub start : node.start ≡ start_of w
-  pub end : node.end ≡ end_of w
+-- ---- values with their places, from their first byte to the byte after their last
 
--- a value made of the node and of what is spelled
-abbrev pub node : {A B : Type 0} → (Node → A → B) → Rule A → Rule B
-node make L d w y e = (n : Node) × (x : _) × IsNodeOf n w × L d w x e × (y ≡ make n x)
+abbrev pub make_identifier : ℕ → ℕ → Lexeme → Identifier
+make_identifier start end l = record { node = node_at start end; name = name_of l }
 
--- names with their letters raised
-abbrev pub Names : Type 0
-Names = List (List ℕ)
+abbrev pub make_path : ℕ → ℕ → Identifier → Path
+make_path start end i = record { node = node_at start end; root = i }
 
-abbrev pub has : Names → List ℕ → Bool
-has names name = list_any (bytes_eq name) names
+abbrev pub make_spec : ℕ → ℕ → Lexeme → Spec
+make_spec start end l = record { node = node_at start end; elem = elem.Int }
 
-abbrev pub make_identifier : List ℕ → Node → Token → Identifier
-make_identifier text n t = record { node = n; name = name_of text t }
+abbrev pub make_decl : ℕ → ℕ → List Identifier × Spec → Decl
+make_decl start end p = record { node = node_at start end; names = p.0; spec = p.1 }
 
-abbrev pub identifier : List ℕ → Rule Identifier
-identifier text = node (make_identifier text) (token Name)
+abbrev pub make_section : ℕ → ℕ → List Decl → Section
+make_section start end ds = record { node = node_at start end; decls = ds }
 
--- a name that isn't among these
-abbrev pub new_name : List ℕ → Names → Rule Identifier
-new_name text names = only (λ i. not (has names i.name)) (identifier text)
+-- a number of the tree, which no number of a text exceeds
+abbrev pub kept : ℕ → ℕ
+kept size = min size (2 ^ 128 - 1)
 
--- a name among these, as a path
-abbrev pub make_path : Node → Identifier → Path
-make_path n i = record { node = n; root = i }
+abbrev pub literal : Bool → Lexeme → Literal
+literal negative l = record { negative = negative; size = kept (number_of l.bytes) }
 
-abbrev pub path : List ℕ → Names → Rule Path
-path text names = node make_path (only (λ i. has names i.name) (identifier text))
+abbrev pub make_number : ℕ → ℕ → Literal → Expr
+make_number start end n = expr.Number (node_at start end) n
 
-abbrev pub names_of : List Identifier → Names
-names_of is = map (λ i. i.name) is
+-- from the first byte of the left operand to the end of the right one
+abbrev pub sum_of : Expr → Operator → Expr → Expr
+sum_of left o right = expr.Binary (node_at (place_of left).start (place_of right).end) o left right
 
--- one more name after a comma
-abbrev pub more_names : List ℕ → Names → List Identifier → Rule (List Identifier)
-more_names text names is = do
-  comma ← token Comma
-  i ← new_name text (names ++ names_of is)
-  give (is ++ i ∷ [])
-
-abbrev pub names_list : List ℕ → Names → Rule (List Identifier)
-names_list text names = do
-  i ← new_name text names
-  many (more_names text names) (i ∷ [])
-
-abbrev pub make_spec : Node → Token → Spec
-make_spec n t = record { node = n; elem = elem.Int }
-
-abbrev pub make_decl : Node → List Identifier × Spec → Decl
-make_decl n p = record { node = n; names = p.0; spec = p.1 }
-
-abbrev pub decl : List ℕ → Names → Rule Decl
-decl text names = node make_decl (do
-  is ← names_list text names
-  colon ← token Colon
-  s ← node make_spec (token Int)
-  semicolon ← token Semicolon
-  give (is, s))
-
-abbrev pub declared : List Decl → Names
-declared ds = flat_map (λ d. names_of d.names) ds
-
-abbrev pub more_decls : List ℕ → List Decl → Rule (List Decl)
-more_decls text ds = do
-  one ← decl text (declared ds)
-  give (ds ++ one ∷ [])
-
-abbrev pub make_section : Node → List Decl → Section
-make_section n ds = record { node = n; decls = ds }
-
-abbrev pub section : List ℕ → Rule Section
-section text = node make_section (do
-  first ← token Var
-  ds ← many (more_decls text) []
-  last ← token EndVar
-  give ds)
-
--- a section, or none
-abbrev pub sections : List ℕ → Rule (List Section)
-sections text = give [] or (section text >>= λ s. give (s ∷ []))
-
-abbrev pub literal : Bool → List ℕ → Token → Literal
-literal negative text t = record { negative = negative; size = number_of (bytes_of text t) }
-
--- a number, a minus directly before it taken in
-abbrev pub number : List ℕ → Rule Expr
-number text = node expr.Number
-    ((token Number >>= λ t. give (literal false text t)) or (token Minus >>= λ minus. token Number >>= λ t. give (literal true text t)))
-
-abbrev pub term : List ℕ → Names → Rule Expr
-term text names = (path text names >>= λ p. give (expr.Variable p)) or number text
-
-abbrev pub operator : Rule Operator
-operator = (token Plus >>= λ t. give Add) or (token Minus >>= λ t. give Subtract)
-
--- a sum from the first byte of its left operand to the end of its right one
-pub record IsSum (left right : Expr) (o : Operator) (sum : Expr) : Type 0 where
-  pub node : Node
-  pub start : node.start ≡ (place_of left).start
-  pub end : node.end ≡ (place_of right).end
-  pub sum_is : sum ≡ expr.Binary node o left right
-
-abbrev pub joined : Expr → Operator → Expr → Rule Expr
-joined left o right d w x e = (w ≡ []) × IsSum left right o x × (e ≡ d)
-
-abbrev pub more_terms : List ℕ → Names → Expr → Rule Expr
-more_terms text names left = do
-  o ← operator
-  right ← term text names
-  joined left o right
-
-abbrev pub sum : List ℕ → Names → Rule Expr
-sum text names = term text names >>= many (more_terms text names)
-
-abbrev pub make_stmt : Node → Path × Expr → Stmt
-make_stmt n p = Assign n p.0 p.1
-
-abbrev pub stmt : List ℕ → Names → Rule Stmt
-stmt text names = node make_stmt (do
-  target ← path text names
-  becomes ← token Becomes
-  value ← sum text names
-  semicolon ← token Semicolon
-  give (target, value))
-
-abbrev pub more_stmts : List ℕ → Names → List Stmt → Rule (List Stmt)
-more_stmts text names body = do
-  s ← stmt text names
-  give (body ++ s ∷ [])
-
-abbrev pub declared_in : List Section → Names
-declared_in ss = flat_map (λ s. declared s.decls) ss
+abbrev pub make_stmt : ℕ → ℕ → Path × Expr → Stmt
+make_stmt start end p = Assign (node_at start end) p.0 p.1
 
 -- what stands between PROGRAM and END_PROGRAM
 pub record Parts : Type 0 where
@@ -176,39 +76,136 @@ pub record Parts : Type 0 where
   pub sections : List Section
   pub body : List Stmt
 
-abbrev pub make_unit : Node → Parts → SourceUnit
-make_unit n p = record { node = n; name = p.name; sections = p.sections; body = p.body }
+abbrev pub make_unit : ℕ → ℕ → Parts → SourceUnit
+make_unit start end p = record { node = node_at start end; name = p.name; sections = p.sections; body = p.body }
 
-abbrev pub program : List ℕ → Rule SourceUnit
-program text = node make_unit (do
+-- ---- names
+
+-- a name that the test doesn't pass, and one that it does
+abbrev pub is_new : (List ℕ → Bool) → Lexeme → Bool
+is_new known l = is_kind Name l && not (known (name_of l))
+
+abbrev pub is_known : (List ℕ → Bool) → Lexeme → Bool
+is_known known l = is_kind Name l && known (name_of l)
+
+abbrev pub identifier_that : (Lexeme → Bool) → Rule Identifier
+identifier_that test = node make_identifier (token_that test)
+
+abbrev pub identifier : Rule Identifier
+identifier = identifier_that (is_kind Name)
+
+-- a name that isn't among these
+abbrev pub new_name : Names → Rule Identifier
+new_name names = identifier_that (is_new (has names))
+
+-- a name among these, as a path
+abbrev pub path : Names → Rule Path
+path names = node make_path (identifier_that (is_known (has names)))
+
+-- ---- declarations
+
+-- one more name after a comma
+abbrev pub more_names : Names → List Identifier → Rule (List Identifier)
+more_names names is = do
+  comma ← token Comma
+  i ← new_name (names ++ names_of is)
+  give (is ++ i ∷ [])
+
+abbrev pub names_list : Names → Rule (List Identifier)
+names_list names = do
+  i ← new_name names
+  many (more_names names) (i ∷ [])
+
+abbrev pub spec : Rule Spec
+spec = node make_spec (token Int)
+
+abbrev pub decl : Names → Rule Decl
+decl names = node make_decl (do
+  is ← names_list names
+  colon ← token Colon
+  s ← spec
+  semicolon ← token Semicolon
+  give (is, s))
+
+abbrev pub more_decls : List Decl → Rule (List Decl)
+more_decls ds = do
+  one ← decl (declared ds)
+  give (ds ++ one ∷ [])
+
+abbrev pub section : Rule Section
+section = node make_section (do
+  first ← token Var
+  ds ← many more_decls []
+  last ← token EndVar
+  give ds)
+
+-- a section, or none
+abbrev pub sections : Rule (List Section)
+sections = (section >>= λ s. give (s ∷ [])) or give []
+
+-- ---- statements
+
+-- a number, a minus directly before it taken in
+abbrev pub number : Rule Expr
+number = node make_number
+    ((token Minus >>= λ minus. token Number >>= λ l. give (literal true l)) or (token Number >>= λ l. give (literal false l)))
+
+abbrev pub term : Names → Rule Expr
+term names = (path names >>= λ p. give (expr.Variable p)) or number
+
+abbrev pub operator : Rule Operator
+operator = (token Plus >>= λ l. give Add) or (token Minus >>= λ l. give Subtract)
+
+abbrev pub more_terms : Names → Expr → Rule Expr
+more_terms names left = do
+  o ← operator
+  right ← term names
+  give (sum_of left o right)
+
+abbrev pub sum : Names → Rule Expr
+sum names = term names >>= many (more_terms names)
+
+abbrev pub stmt : Names → Rule Stmt
+stmt names = node make_stmt (do
+  target ← path names
+  becomes ← token Becomes
+  value ← sum names
+  semicolon ← token Semicolon
+  give (target, value))
+
+abbrev pub more_stmts : Names → List Stmt → Rule (List Stmt)
+more_stmts names body = do
+  s ← stmt names
+  give (body ++ s ∷ [])
+
+abbrev pub program : Rule SourceUnit
+program = node make_unit (do
   first ← token Program
-  name ← identifier text
-  ss ← sections text
-  body ← many (more_stmts text (declared_in ss)) []
+  name ← identifier
+  ss ← sections
+  body ← many (more_stmts (declared_in ss)) []
   last ← token EndProgram
   give (record { name = name; sections = ss; body = body }))
 
--- the places of a text's line feeds, from a place on
-abbrev pub feeds_from : ℕ → List ℕ → List ℕ
-feeds_from at [] = []
-feeds_from at (byte ∷ bytes) = if nat_eq byte 10 then at ∷ feeds_from (suc at) bytes else feeds_from (suc at) bytes
+-- ---- files
 
 -- The tokens of a text spell this tree: that of one program, its nodes numbered, with the text's line feeds.
 pub record IsTree (text : List ℕ) (tokens : List Token) (tree : SourceTree) : Type 0 where
   pub unit : SourceUnit
   pub units : tree.units ≡ unit ∷ []
   pub feeds : tree.feeds ≡ feeds_from 0 text
-  pub spelled : Spells (program text) tokens unit
+  -- (what is spelled has no numbers)
+  pub spelled : Spells program (lexemes text tokens) (bare_unit unit)
   pub numbered : IsNumbered tree
 
--- the first byte of the next token, or the text's length
-abbrev pub place_at : List ℕ → List Token → ℕ
+-- the first byte of the next lexeme, or the text's length
+abbrev pub place_at : List ℕ → List Lexeme → ℕ
 place_at text [] = length text
-place_at text (t ∷ ts) = t.start
+place_at text (l ∷ ls) = l.start
 
--- The tokens spell no tree, and with the token at this place they no longer begin one.
+-- The tokens spell no tree, and with the one at this place they no longer begin one.
 pub record IsRefused (text : List ℕ) (tokens : List Token) (at : ℕ) : Type 0 where
   pub unspelled : (tree : SourceTree) → IsTree text tokens tree → ⊥
-  pub rest : List Token
-  pub stops : Stops (program text) tokens rest
+  pub rest : List Lexeme
+  pub longest : IsLongest program (lexemes text tokens) rest
   pub place : at ≡ place_at text rest

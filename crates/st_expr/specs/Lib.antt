@@ -1,1 +1,6 @@
 pub mod FirstForm
+pub mod Answers
+pub mod Parse
+pub mod Known
+pub mod Ahead
+pub mod Numbering

@@ -1,20 +1,33 @@
 // The tree of a text of the first form, or the place at which it stops being one.
 
-ghost use Rattle.std.specs.Prelude.{◌≡◌, ◌+◌, IfOk, length};
+ghost use Rattle.std.specs.Prelude.{◌≡◌, ◌+◌, IfOk, [], ◌∷◌, length};
+ghost use Rattle.token_grammar.specs.Input.{view};
+ghost use Rattle.st_tree.specs.Feeds.{feeds_from};
+ghost use Rattle.st_expr.specs.FirstForm.{place_at};
+ghost use Rattle.st_expr.specs.Answers.{Answers, Parses, fault_of};
 
-use crate::parser::{Parser, Stop};
+use crate::parser::Parser;
 use sqlite_items::Items;
 use st_tree::{FaultCode, SourceTree, Unit};
 use station_ports::steps::Steps;
 use std::alloc::{AllocError, Global};
 use std::sync::ledger::Ledger;
-use token_grammar::{Token, Tokens};
+use token_grammar::{Cursor, ParseError, Token, Tokens};
 
 /// Why there is no tree: a fault and its place in bytes, or no memory.
 #[derive(Clone, Copy, Debug, PartialEq, Eq)]
 pub enum ParseFault {
     At { code: FaultCode, at: usize },
     NoMemory,
+}
+
+impl From<AllocError> for ParseFault {
+    ghost use Rattle.st_expr.specs.declared.file.ParseFault.TheVariants as fault;
+    ghost from_gives = { λ _ e. e ≡ fault.NoMemory };
+
+    fn from(_error: AllocError) -> ParseFault {
+        ParseFault::NoMemory
+    }
 }
 
 /// The tree that the tokens of a file spell. Where they spell none, the fault stands at the first token with which they no longer
@@ -24,22 +37,46 @@ pub fn first_form<L: Ledger>(
     tokens: &Tokens<'_>,
     steps: &mut Steps<L>,
 ) -> Result<SourceTree, ParseFault>
-    ensures one { IfOk result (λ tree. length tree.units ≡ 1) }
+    ensures answers { Answers tokens.now.text.now tokens.now.list.items result }
     ensures parsed { steps.new.parsed ≡ steps.old.parsed + length tokens.now.list.items }
     ensures solved { steps.new.solved ≡ steps.old.solved }
 {
     count_steps(&tokens.list, steps);
+    let unit = only_program(alloc, tokens)?;
+    Ok(tree_of(alloc, tokens.text, unit)?)
+}
+
+/// The program that all the tokens spell.
+fn only_program(alloc: Global, tokens: &Tokens<'_>) -> Result<Unit, ParseFault>
+    ensures { Parses tokens.now.text.now tokens.now.list.items result }
+{
     let mut parser = Parser::new(alloc, tokens);
-    match parser.file() {
-        Ok(unit) => match tree_of(alloc, tokens.text, unit) {
-            Ok(tree) => Ok(tree),
-            Err(_) => Err(ParseFault::NoMemory),
-        },
-        Err(Stop::NoMemory) => Err(ParseFault::NoMemory),
-        Err(Stop::Grammar) => Err(ParseFault::At {
+    match parser.program() {
+        Ok(unit) => {
+            if parser.cursor.rest.is_empty() {
+                Ok(unit)
+            } else {
+                Err(fault_at(ParseError::Grammar, tokens.text, &parser.cursor))
+            }
+        }
+        Err(error) => Err(fault_at(error, tokens.text, &parser.cursor)),
+    }
+}
+
+/// The fault for which nothing was read, at the next token or the text's length. (No text of this form nests.)
+fn fault_at(error: ParseError, text: &[u8], cursor: &Cursor<'_>) -> ParseFault
+    ensures { result ≡ fault_of error (place_at text.now (view cursor.now).rest) }
+{
+    let at = match cursor.rest.split_first() {
+        None => text.len(),
+        Some((token, _)) => token.start,
+    };
+    match error {
+        ParseError::Memory => ParseFault::NoMemory,
+        ParseError::Grammar | ParseError::TooDeep => ParseFault::At {
             code: FaultCode::NotBuilt,
-            at: parser.place(),
-        }),
+            at,
+        },
     }
 }
 
@@ -55,7 +92,8 @@ fn count_steps<L: Ledger>(tokens: &[Token], steps: &mut Steps<L>)
 
 /// The tree of a file of one unit, with the places of the text's line feeds.
 fn tree_of(alloc: Global, text: &[u8], unit: Unit) -> Result<SourceTree, AllocError>
-    ensures { IfOk result (λ tree. length tree.units ≡ 1) }
+    ensures units { IfOk result (λ tree. tree.units ≡ unit ∷ []) }
+    ensures feeds { IfOk result (λ tree. tree.feeds ≡ feeds_from 0 text.now) }
 {
     let mut units = Items::new(alloc);
     units.push(unit)?;
@@ -66,10 +104,12 @@ fn tree_of(alloc: Global, text: &[u8], unit: Unit) -> Result<SourceTree, AllocEr
 }
 
 /// The places of the line feeds of a text.
-fn feeds_of(alloc: Global, text: &[u8]) -> Result<Items<usize>, AllocError> {
+fn feeds_of(alloc: Global, text: &[u8]) -> Result<Items<usize>, AllocError>
+    ensures { IfOk result (λ feeds. feeds ≡ feeds_from 0 text.now) }
+{
     let mut feeds = Items::new(alloc);
-    for (at, byte) in text.iter().enumerate() {
-        if *byte == b'\n' {
+    for at in 0..text.len() {
+        if text[at] == b'\n' {
             feeds.push(at)?;
         }
     }

@@ -1,270 +1,121 @@
-// The rules of the first form, from the file down to the names.
+// What the rules are read with: a cursor over the tokens, and the number of the next node.
 
-ghost use Rattle.std.specs.Prelude.{◌≡◌};
+ghost use Rattle.std.specs.Prelude.{◌≡◌, ◌≢◌, ◌+◌, Bool, true, false, map, [], ◌∷◌, IfOk, OnOk, IfErr};
+ghost use Rattle.iec_tables.specs.Letters.{raised};
+ghost use Rattle.token_grammar.specs.declared.fault.ParseError.TheVariants as errors;
+ghost use Rattle.token_grammar.specs.Texts.{Lexeme, lexemes};
+ghost use Rattle.token_grammar.specs.declared.token.TokenKind.TheVariants as kind;
+ghost use Rattle.token_grammar.specs.Input.{ReadsAs, sees_that, sees_in, view};
+ghost use Rattle.st_tree.specs.Bare.{bare_identifier};
+ghost use Rattle.st_expr.specs.Ahead.{IsNameAhead, operators};
+ghost use Rattle.st_expr.specs.Numbering.{Counts};
+ghost use Rattle.st_expr.specs.Parse as p;
 
-use iec_tables::elem::Elem;
 use iec_tables::letters::raise;
-use sqlite_items::Items;
-use st_tree::{Decl, Identifier, Node, NodeNo, Path, Section, Spec, Stmt, Unit};
+use st_tree::{Identifier, Node, NodeNo};
 use station_ports::texts::Name;
-use std::alloc::{AllocError, AllocFailed, Global};
-use std::collections::BTreeSet;
-use token_grammar::{Cursor, Token, TokenKind, Tokens};
+use std::alloc::{AllocError, Global};
+use token_grammar::{Cursor, ParseError, TokenKind, Tokens};
 
-/// Why nothing was read. At a fault of the grammar the cursor stands at its place.
-#[derive(Clone, Copy, Debug, PartialEq, Eq)]
-pub(crate) enum Stop {
-    Grammar,
-    NoMemory,
-}
-
-impl From<AllocError> for Stop {
-    fn from(_: AllocError) -> Self {
-        Stop::NoMemory
-    }
-}
-
-impl<T: Drop> From<AllocFailed<T>> for Stop {
-    fn from(_: AllocFailed<T>) -> Self {
-        Stop::NoMemory
-    }
-}
-
-/// A parser: what is still to be read, the number of the next node, and the names that are declared so far.
+/// A parser: what is still to be read, and the number of the next node.
 #[derive(Drop)]
 pub(crate) struct Parser<'t> {
     pub alloc: Global,
-    cursor: Cursor<'t>,
-    next: u32,
-    declared: BTreeSet<Vec<u8>>,
+    pub cursor: Cursor<'t>,
+    pub next: u32,
 }
 
 impl<'t> Parser<'t> {
-    pub fn new(alloc: Global, tokens: &'t Tokens<'t>) -> Self {
+    pub fn new(alloc: Global, tokens: &'t Tokens<'t>) -> Self
+        ensures view { view result.cursor ≡ record { rest = lexemes tokens.now.text.now tokens.now.list.items; last = 0; depth = 0 } }
+        ensures next { result.next ≡ 0 }
+    {
         Parser {
             alloc,
             cursor: Cursor {
                 text: tokens.text,
                 rest: tokens.list.as_slice(),
+                last: 0,
+                depth: 0,
             },
             next: 0,
-            declared: BTreeSet::new(alloc),
         }
     }
 
-    /// The first byte of the next token, or the text's length.
-    pub fn place(&self) -> usize {
-        self.cursor.place()
+    /// The first of the numbers of so many nodes. Where there are 2^32 nodes or more, which a text of the limit doesn't have, there
+    /// is no room for them.
+    pub fn numbers(&mut self, count: usize) -> Result<NodeNo, ParseError>
+        ensures cursor { self.new.cursor ≡ self.old.cursor }
+        ensures first { IfOk result (λ first. first.0 ≡ self.old.next) }
+        ensures next { OnOk result (self.new.next ≡ self.old.next + count) }
+        ensures memory { IfErr result (λ e. e ≡ errors.Memory) }
+    {
+        let first = self.next;
+        match u32::try_from(count) {
+            Ok(count) => match first.checked_add(count) {
+                Some(next) => {
+                    self.next = next;
+                    Ok(NodeNo(first))
+                }
+                None => Err(ParseError::Memory),
+            },
+            Err(_) => Err(ParseError::Memory),
+        }
     }
 
     /// The number of the next node.
-    pub fn number(&mut self) -> NodeNo {
+    pub fn number(&mut self) -> Result<NodeNo, ParseError>
+        ensures cursor { self.new.cursor ≡ self.old.cursor }
+        ensures first { IfOk result (λ first. first.0 ≡ self.old.next) }
+        ensures next { OnOk result (self.new.next ≡ self.old.next + 1) }
+        ensures memory { IfErr result (λ e. e ≡ errors.Memory) }
+    {
         self.numbers(1)
     }
 
-    /// The first of the numbers of so many nodes. (A text of at most 1,048,576 bytes has fewer than 2^32 nodes.)
-    pub fn numbers(&mut self, count: u32) -> NodeNo {
-        let first = self.next;
-        self.next = self.next.saturating_add(count);
-        NodeNo(first)
-    }
-
-    pub fn sees(&self, kind: TokenKind) -> bool {
-        self.cursor.peek() == Some(kind)
-    }
-
-    pub fn take(&mut self, kind: TokenKind) -> Result<Token, Stop> {
-        self.cursor.take(kind).ok_or(Stop::Grammar)
-    }
-
-    pub fn bytes(&self, token: Token) -> &'t [u8] {
-        self.cursor.bytes(token)
-    }
-
-    /// The tokens that are still to be read.
-    pub fn rest(&self) -> &'t [Token] {
-        self.cursor.rest
-    }
-
-    /// How many tokens are still to be read.
-    fn left(&self) -> usize {
-        self.cursor.rest.len()
-    }
-
-    /// The bytes of the next token with their letters raised, if it is a name.
-    fn next_name(&self) -> Result<Vec<u8>, Stop> {
+    /// The bytes of the next token with their ASCII letters raised, if it is a name.
+    pub fn name_ahead(&self) -> Result<Vec<u8>, ParseError>
+        ensures ahead { IfOk result (λ name. IsNameAhead name.items (view self.now.cursor).rest) }
+        ensures refused { IfErr result (λ e. e ≢ errors.Memory → (e ≡ errors.Grammar) × (sees_in kind.Name (view self.now.cursor).rest ≡ false)) }
+    {
         match self.cursor.rest.split_first() {
-            Some((token, _)) if token.kind == TokenKind::Name => {
+            Some((token, _)) => {
+                if !self.cursor.sees(TokenKind::Name) {
+                    return Err(ParseError::Grammar);
+                }
                 Ok(raised(self.alloc, self.cursor.bytes(*token))?)
             }
-            _ => Err(Stop::Grammar),
+            None => Err(ParseError::Grammar),
         }
     }
 
-    /// Takes the next token as the identifier of that name and number.
-    fn take_identifier(&mut self, name: Vec<u8>) -> Result<Identifier, Stop> {
-        let token = self.take(TokenKind::Name)?;
-        let node = self.node(token.start, token.end);
+    /// Takes the next token as the identifier of that name.
+    #[tactic(auto, unfolding(crate::specs::Parse::identifier_that))]
+    pub fn identifier(&mut self, name: Vec<u8>) -> Result<Identifier, ParseError>
+        requires { IsNameAhead name.items (view self.old.cursor).rest }
+        ensures reads { (test : Lexeme → Bool) → sees_that test (view self.old.cursor).rest ≡ true → ReadsAs bare_identifier (p.identifier_that test (view self.old.cursor)) result (view self.new.cursor) }
+        ensures name { IfOk result (λ i. i.name ≡ name.items) }
+        ensures numbers { IfOk result (λ i. Counts self.old.next (i.node ∷ []) self.new.next) }
+        ensures ahead { OnOk result (operators false (view self.old.cursor).rest ≡ operators true (view self.new.cursor).rest) }
+    {
+        let number = self.number()?;
+        let start = self.cursor.start();
+        self.cursor.take(TokenKind::Name)?;
         Ok(Identifier {
-            node,
+            node: Node {
+                number,
+                start,
+                end: self.cursor.last,
+            },
             name: Name::from_vec(name),
         })
-    }
-
-    fn node(&mut self, start: usize, end: usize) -> Node {
-        Node {
-            number: self.number(),
-            start,
-            end,
-        }
-    }
-
-    /// `{ unit }` of one program, up to the end of the text.
-    pub fn file(&mut self) -> Result<Unit, Stop> {
-        let unit = self.program()?;
-        if self.left() > 0 {
-            return Err(Stop::Grammar);
-        }
-        Ok(unit)
-    }
-
-    /// `PROGRAM name [ section ] { statement } END_PROGRAM`
-    fn program(&mut self) -> Result<Unit, Stop> {
-        let number = self.number();
-        let first = self.take(TokenKind::Program)?;
-        let name = self.next_name()?;
-        let name = self.take_identifier(name)?;
-        let mut sections = Items::new(self.alloc);
-        if self.sees(TokenKind::Var) {
-            sections.push(self.section()?)?;
-        }
-        let mut body = Items::new(self.alloc);
-        for _ in 0..self.left() {
-            if !self.sees(TokenKind::Name) {
-                break;
-            }
-            body.push(self.statement()?)?;
-        }
-        let last = self.take(TokenKind::EndProgram)?;
-        Ok(Unit {
-            node: Node {
-                number,
-                start: first.start,
-                end: last.end,
-            },
-            name,
-            sections,
-            body,
-        })
-    }
-
-    /// `VAR { declaration } END_VAR`
-    fn section(&mut self) -> Result<Section, Stop> {
-        let number = self.number();
-        let first = self.take(TokenKind::Var)?;
-        let mut decls = Items::new(self.alloc);
-        for _ in 0..self.left() {
-            if !self.sees(TokenKind::Name) {
-                break;
-            }
-            decls.push(self.declaration()?)?;
-        }
-        let last = self.take(TokenKind::EndVar)?;
-        Ok(Section {
-            node: Node {
-                number,
-                start: first.start,
-                end: last.end,
-            },
-            decls,
-        })
-    }
-
-    /// `name { "," name } ":" INT ";"`
-    fn declaration(&mut self) -> Result<Decl, Stop> {
-        let number = self.number();
-        let start = self.place();
-        let mut names = Items::new(self.alloc);
-        names.push(self.new_name()?)?;
-        for _ in 0..self.left() {
-            if !self.sees(TokenKind::Comma) {
-                break;
-            }
-            self.take(TokenKind::Comma)?;
-            names.push(self.new_name()?)?;
-        }
-        self.take(TokenKind::Colon)?;
-        let spec = self.spec()?;
-        let last = self.take(TokenKind::Semicolon)?;
-        Ok(Decl {
-            node: Node {
-                number,
-                start,
-                end: last.end,
-            },
-            names,
-            spec,
-        })
-    }
-
-    fn spec(&mut self) -> Result<Spec, Stop> {
-        let token = self.take(TokenKind::Int)?;
-        Ok(Spec {
-            node: self.node(token.start, token.end),
-            elem: Elem::Int,
-        })
-    }
-
-    /// A name that isn't declared yet; from now on it is.
-    fn new_name(&mut self) -> Result<Identifier, Stop> {
-        let name = self.next_name()?;
-        if self.declared.contains(name.as_slice()) {
-            return Err(Stop::Grammar);
-        }
-        self.declared.insert(name.clone()?)?;
-        self.take_identifier(name)
-    }
-
-    /// A declared name, as the path of its variable.
-    pub fn path(&mut self) -> Result<Path, Stop> {
-        let name = self.next_name()?;
-        if !self.declared.contains(name.as_slice()) {
-            return Err(Stop::Grammar);
-        }
-        let number = self.number();
-        let root = self.take_identifier(name)?;
-        Ok(Path {
-            node: Node {
-                number,
-                start: root.node.start,
-                end: root.node.end,
-            },
-            root,
-        })
-    }
-
-    /// `path ":=" sum ";"`
-    fn statement(&mut self) -> Result<Stmt, Stop> {
-        let number = self.number();
-        let start = self.place();
-        let target = self.path()?;
-        self.take(TokenKind::Becomes)?;
-        let value = self.sum()?;
-        let last = self.take(TokenKind::Semicolon)?;
-        Ok(Stmt::Assign(
-            Node {
-                number,
-                start,
-                end: last.end,
-            },
-            target,
-            value,
-        ))
     }
 }
 
 /// The bytes with their ASCII letters raised.
-fn raised(alloc: Global, bytes: &[u8]) -> Result<Vec<u8>, AllocError> {
+fn raised(alloc: Global, bytes: &[u8]) -> Result<Vec<u8>, AllocError>
+    ensures { IfOk result (λ all. all.items ≡ map raised bytes.now) }
+{
     let mut all = Vec::with_capacity(alloc, bytes.len())?;
     for byte in bytes {
         all.push(raise(*byte))?;

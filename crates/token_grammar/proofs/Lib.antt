@@ -5,3 +5,6 @@ pub mod Steps
 pub mod Loops
 pub mod Front
 pub mod Starts
+pub mod Turns
+pub mod Taken
+pub mod Flat

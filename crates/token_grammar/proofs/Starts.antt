@@ -77,7 +77,7 @@ sees_other (j ∷ js) ks ts apart e =
       | inr is ↦ sees_other js ks ts g.1 is
     ]
 
-any_left : (js ks : List TokenKind) (ts : List Lexeme) → sees_any js ts ≡ true → sees_any (js ++ ks) ts ≡ true
+pub any_left : (js ks : List TokenKind) (ts : List Lexeme) → sees_any js ts ≡ true → sees_any (js ++ ks) ts ≡ true
 any_left [] ks ts e = absurd cc
 any_left (j ∷ js) ks ts e = elim (or_true (sees_in j ts) (sees_any js ts) e) [
   | inl is ↦ or_left _ _ is
@@ -91,7 +91,7 @@ in_either (j ∷ js) ks ts e = elim (or_true (sees_in j ts) (sees_any (js ++ ks)
   | inr is ↦ elim (in_either js ks ts is) [ inl x ↦ inl (or_right (sees_in j ts) _ x) | inr x ↦ inr x ]
 ]
 
-any_right : (js ks : List TokenKind) (ts : List Lexeme) → sees_any ks ts ≡ true → sees_any (js ++ ks) ts ≡ true
+pub any_right : (js ks : List TokenKind) (ts : List Lexeme) → sees_any ks ts ≡ true → sees_any (js ++ ks) ts ≡ true
 any_right [] ks ts e = e
 any_right (j ∷ js) ks ts e = or_right (sees_in j ts) (sees_any (js ++ ks) ts) (any_right js ks ts e)
 

@@ -1,0 +1,11 @@
+pub mod Known
+pub mod Ahead
+pub mod Trees
+pub mod Counting
+pub mod Turns
+pub mod Begun
+pub mod Whole
+pub mod Fresh
+pub mod Exactness
+pub mod Flat
+pub mod Found

@@ -1,0 +1,16 @@
+use Rattle.std.proofs.Common.{◌≡◌, List, true, false, sym, ap, ◌∙◌, rules, arith}
+use Rattle.std.proofs.lemmas.Grind.{common_steps}
+use Rattle.token_grammar.specs.declared.token.TokenKind.TheVariants.{Name}
+use Rattle.token_grammar.specs.Texts.{Lexeme, lexeme}
+use Rattle.token_grammar.specs.Kinds.{is_kind}
+use Rattle.token_grammar.specs.Input.{view}
+use Rattle.token_grammar.proofs.Taken.{taken}
+use Rattle.st_expr.specs.Ahead.{operators}
+use Rattle.st_expr.proofs.Ahead.{after_name}
+use Rattle.st_expr.proofs.parser.Parser.identifier.Goals as goal
+
+pub returns-clause-ahead : goal.returns-clause-ahead
+returns-clause-ahead c =
+    let n = taken (is_kind Name) (view c.number.new.self.cursor) (lexeme c.number.new.self.cursor.text.now c.in_ok-take.field-0) (view c.take.new.self) c.in_ok-take.ensures.reads in
+    let e = ap (λ cursor. operators false (view cursor).rest) (sym c.number.ensures.cursor) in
+    e ∙ ap (operators false) n.list ∙ after_name _ _ n.passed

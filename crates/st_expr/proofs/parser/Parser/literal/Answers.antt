@@ -1,0 +1,23 @@
+use Rattle.std.proofs.Common.{◌≡◌, List, true, false, sym, ap, ◌∙◌, rules, arith}
+use Rattle.std.proofs.lemmas.Grind.{common_steps}
+use Rattle.token_grammar.specs.declared.token.TokenKind.TheVariants.{Minus, Number}
+use Rattle.token_grammar.specs.Texts.{Lexeme, lexeme}
+use Rattle.token_grammar.specs.Kinds.{is_kind}
+use Rattle.token_grammar.specs.Input.{view}
+use Rattle.token_grammar.proofs.Taken.{taken}
+use Rattle.st_expr.specs.Ahead.{operators}
+use Rattle.st_expr.proofs.Ahead.{after_minus, after_number}
+use Rattle.st_expr.proofs.parser.Parser.literal.Goals as goal
+use Rattle.st_expr.proofs.parser.Parser.literal.Goals.{then-negative+in_ok-take, else-negative}
+
+pub returns-clause-ahead : goal.returns-clause-ahead
+returns-clause-ahead c =
+    let n = taken (is_kind Number) (view c.if-negative.self.cursor) (lexeme c.if-negative.self.cursor.text.now c.in_ok-token.token) (view c.take-2.new.self) c.in_ok-token.ensures.reads in
+    let number : operators false (view c.if-negative.self.cursor).rest ≡ operators true (view c.take-2.new.self).rest = ap (operators false) n.list ∙ after_number _ _ n.passed in
+    let start = ap (λ cursor. operators false (view cursor).rest) (sym c.number.ensures.cursor) in
+    elim c.if-negative.branch [
+    | then-negative+in_ok-take w ↦
+        (let m = taken (is_kind Minus) (view c.number.new.self.cursor) (lexeme c.number.new.self.cursor.text.now w.in_ok-take.field-0) (view w.take.new.self) w.in_ok-take.ensures.reads in
+        start ∙ ap (operators false) m.list ∙ after_minus false _ _ m.passed ∙ ap (λ self. operators false (view self.cursor).rest) (sym w.self-is) ∙ number)
+    | else-negative w ↦ start ∙ ap (λ self. operators false (view self.cursor).rest) (sym w.self-is) ∙ number
+    ]
