@@ -92,7 +92,7 @@ unfolding p.more_names
 exact_more_names names is =
     subst (λ (known : Known). Exact Any (λ i. and_then (p.comma_name known i) (λ x. pure (is ++ x ∷ []))) (g.more_names names is) never) (sym (knows_has names (names_of is)))
     (exact_same (bind_give {more = never} (λ x. is ++ x ∷ []) (exact_comma_name (names ++ names_of is))) (λ d v. v)
-      (to_right (token Comma) (λ comma. g.new_name (names ++ names_of is)) (λ x. give (is ++ x ∷ []))) (to_left (token Comma) (λ comma. g.new_name (names ++ names_of is)) (λ x. give (is ++ x ∷ []))) (λ rest e. e))
+    (to_right (token Comma) (λ comma. g.new_name (names ++ names_of is)) (λ x. give (is ++ x ∷ []))) (to_left (token Comma) (λ comma. g.new_name (names ++ names_of is)) (λ x. give (is ++ x ∷ []))) (λ rest e. e))
 
 starts_more_names : (names : Names) (is : List Identifier) → Starts (g.more_names names is) (Comma ∷ [])
 starts_more_names names is = starts_bind (starts_token Comma 0 0)
@@ -185,7 +185,6 @@ sees_signs ts = same_two (sees_in Plus ts) (sees_in Minus ts)
 
 -- names, one of which is that of a lexeme
 module _ (names : Names) (a : Lexeme) (passes : is_known (has names) a ≡ true) where
-
   exact_path : Exact Any (p.path (has names)) (g.path names) never
   unfolding p.path
   exact_path = exact_node make_path (starts_long (starts_identifier (is_known (has names)) (λ t. and_left _ _))) (exact_identifier (is_known (has names)) a passes (λ t. and_left _ _))
@@ -231,7 +230,6 @@ starts_more_stmts names body = starts_bind (starts_node make_stmt (starts_bind (
 -- ---- no statement where no name can be known
 
 module _ (names : Names) (unknown : (l : Lexeme) → is_known (has names) l ≡ false) where
-
   no_stmt : (body : List Stmt) (d : ℕ) (w : Word) (x : List Stmt) (e : ℕ) → g.more_stmts names body d w x e → ⊥
   no_stmt body d w x e (u, v, s, m, eq, (y, (u1, v1, target, m1, eq1, (i, (l, (eq2, passes, same), is2), is1), r), is), k) =
       let clash : false ≡ true = sym (unknown l) ∙ passes in cc
@@ -308,5 +306,5 @@ unfolding p.program
 exact_program = exact_node make_unit (starts_long (starts_bind (starts_token Program 0 0)))
     (then Program (λ first. then_part (exact_identifier (is_kind Name) (a_token Name) (same_kind_refl Name) name_kind) (λ name.
     follows (Var ∷ []) exact_sections (λ ss.
-      follows (Name ∷ []) (exact_stmts (declared_in ss)) (λ body. bind_give {more = never} (λ l. record { name = name; sections = ss; body = body }) (exact_token EndProgram 0 0)) (λ body. starts_bind (starts_token EndProgram 0 0)) refl)
+    follows (Name ∷ []) (exact_stmts (declared_in ss)) (λ body. bind_give {more = never} (λ l. record { name = name; sections = ss; body = body }) (exact_token EndProgram 0 0)) (λ body. starts_bind (starts_token EndProgram 0 0)) refl)
     (λ ss. starts_many [] (starts_more_stmts (declared_in ss)) (λ body. starts_bind (starts_token EndProgram 0 0))) refl)))

@@ -48,8 +48,8 @@ left_over text tokens x o at e some place =
     let (r, stops) = reads exact_program refl (input 0 0 (lexemes text tokens)) tt x o e in
     record {
       unspelled = λ tree h.
-        let q = spelled_read (lexemes text tokens) (bare_unit h.unit) h.spelled in
-        some (ap (λ (i : Input). i.rest) (other_rest x (bare_unit h.unit) o q.0 (sym e ∙ q.1)) ∙ q.2);
+          let q = spelled_read (lexemes text tokens) (bare_unit h.unit) h.spelled in
+          some (ap (λ (i : Input). i.rest) (other_rest x (bare_unit h.unit) o q.0 (sym e ∙ q.1)) ∙ q.2);
       rest = o.rest;
       longest = record {
         front = lexemes_of r.word;
@@ -66,8 +66,8 @@ stopped text tokens rest at e place =
     let (r, stops) = refuses exact_program refl (input 0 0 (lexemes text tokens)) tt (record { code = Grammar; rest = rest }) e in
     record {
       unspelled = λ tree h.
-        let q = spelled_read (lexemes text tokens) (bare_unit h.unit) h.spelled in
-        no_error (bare_unit h.unit) q.0 (record { code = Grammar; rest = rest }) (sym q.1 ∙ e);
+          let q = spelled_read (lexemes text tokens) (bare_unit h.unit) h.spelled in
+          no_error (bare_unit h.unit) q.0 (record { code = Grammar; rest = rest }) (sym q.1 ∙ e);
       rest = rest;
       longest = record { front = lexemes_of r.word; tokens = r.tokens; begun = record { word = r.word; more = r.more; value = r.value; depth = r.depth; tokens = refl; spelled = r.spelled }; stops = stops refl };
       place = place;

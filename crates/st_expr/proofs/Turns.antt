@@ -38,7 +38,6 @@ pub record IsItem {A : Type 0} (test : List Lexeme → Bool) (item : Known → P
 
 module _ {A : Type 0} {test : List Lexeme → Bool} {item : Known → Parser A} {step : Known → List A → Parser (List A)} {bare : A → A}
     {all : List A → Names} {one : A → Names} {nodes : List A → List Node} {node : A → List Node} (law : IsItem test item step bare all one nodes node) where
-
   item_read : (known so_far : Known) (xs more : List A) (x : A) (i o : Input) → so_far ≡ knows known (all xs) → more ≡ xs ++ x ∷ [] → item so_far i ≡ Ok (bare x, o) → step known (map bare xs) i ≡ Ok (map bare more, o)
   item_read known so_far xs more x i o k e read =
       law.step_is known so_far xs i k

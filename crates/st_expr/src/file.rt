@@ -23,6 +23,7 @@ pub enum ParseFault {
 
 impl From<AllocError> for ParseFault {
     ghost use Rattle.st_expr.specs.declared.file.ParseFault.TheVariants as fault;
+
     ghost from_gives = { λ _ e. e ≡ fault.NoMemory };
 
     fn from(_error: AllocError) -> ParseFault {

@@ -75,7 +75,7 @@ pub local_bind : {A B : Type 0} (L : Rule A) (M : A → Rule B) (f1 f2 : A → P
 local_bind L M f1 f2 i t r1 r2 (Err s) out2 h same told2 local2 = λ v eq. ap (λ (o : Outcome _). and_then o f2) (same v eq)
 local_bind L M f1 f2 i t r1 r2 (Ok p) out2 h same told2 local2 =
     join (M p.0) t r1 r2 p.1 (f1 p.0 p.1) (and_then out2 f2) (told2 p.0 p.1 h)
-      (λ v eq. rw (same v eq) (subst (λ (ts : List Lexeme). Same t r1 r2 (f1 p.0 (input p.1.last p.1.depth ts)) (f2 p.0 (input p.1.last p.1.depth (v ++ t ∷ r2)))) (sym eq) (local2 p.0 p.1 h v eq)))
+    (λ v eq. rw (same v eq) (subst (λ (ts : List Lexeme). Same t r1 r2 (f1 p.0 (input p.1.last p.1.depth ts)) (f2 p.0 (input p.1.last p.1.depth (v ++ t ∷ r2)))) (sym eq) (local2 p.0 p.1 h v eq)))
 
 -- ---- one after the other
 
@@ -92,11 +92,11 @@ pub bind : {A B : Type 0} {V W : ℕ → Type 0} {p : Parser A} {f : A → Parse
 bind {A} {B} {V} {W} {p} {f} {L} {M} {more1} {more2} first next carry apart = record {
   told = λ i v. told_bind L M f i (p i) (first.told i v) (λ x o r. (next x).told o (carry i.depth r.word x o.depth v r.spelled r.within)) (λ x d. (next x).some d);
   complete = λ d w y e v (u1, u2, x, m, eq, l, r) last rest ends_here.
-    let a = first.complete d u1 x m v l last (lexemes_of u2 ++ rest) (apart x m u2 y e r rest ends_here) in
-    let both = gate-append f u1 u2 rest last x m y e (λ within. (next x).complete m u2 y e (carry d u1 x m v l within) r (ends last u1) rest ends_here) in
-    rw (eq, lexemes_of-two u1 u2 rest, a) both;
+      let a = first.complete d u1 x m v l last (lexemes_of u2 ++ rest) (apart x m u2 y e r rest ends_here) in
+      let both = gate-append f u1 u2 rest last x m y e (λ within. (next x).complete m u2 y e (carry d u1 x m v l within) r (ends last u1) rest ends_here) in
+      rw (eq, lexemes_of-two u1 u2 rest, a) both;
   local = λ last d v u t r1 r2.
-    local_bind L M f f (input last d (u ++ t ∷ r1)) t r1 r2 (p (input last d (u ++ t ∷ r1))) (p (input last d (u ++ t ∷ r2))) (first.told (input last d (u ++ t ∷ r1)) v) (first.local last d v u t r1 r2)
+      local_bind L M f f (input last d (u ++ t ∷ r1)) t r1 r2 (p (input last d (u ++ t ∷ r1))) (p (input last d (u ++ t ∷ r2))) (first.told (input last d (u ++ t ∷ r1)) v) (first.local last d v u t r1 r2)
       (λ x o r. (next x).told o (carry d r.word x o.depth v r.spelled r.within))
       (λ x o r u' eq. (next x).local o.last o.depth (carry d r.word x o.depth v r.spelled r.within) u' t r1 r2);
   some = λ d. some_bind L M d (first.some d) (λ x m. (next x).some m);

@@ -46,7 +46,6 @@ ok_first a b e = ap (λ (p : _ × Input). p.0) (ok_is a b e)
 -- ---- no longer list begins the rule
 
 module _ {A : Type 0} {V : ℕ → Type 0} {p : Parser A} {L : Rule A} {more : List Lexeme → Bool} (h : Exact V p L more) (open_end : more [] ≡ false) where
-
   -- a run on tokens that go on as a word does
   run : (last d : ℕ) → V d → (u : List Lexeme) (t : Lexeme) (b : Begins L d (u ++ t ∷ [])) → p (input last d (u ++ t ∷ lexemes_of b.more)) ≡ gate (b.word ++ b.more) [] last b.value b.depth
   run last d v u t b =

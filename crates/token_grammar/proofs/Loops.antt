@@ -29,7 +29,6 @@ shorter d u v t r1 r2 m rest w some e1 e2 le =
     omega (arith, some, le, n1, n2, length-append u (t ∷ r1), length-append u (t ∷ r2), length-append v (t ∷ r1), length-append v (t ∷ r2), length-append (lexemes_of w) rest, length-lexemes_of w)
 
 module _ {A : Type 0} {V : ℕ → Type 0} {test : List Lexeme → Bool} {step : A → Parser A} {rule : A → Rule A} {more : List Lexeme → Bool} (h : Turn V test step rule more) where
-
   told_turn : (a : A) (i : Input) (x : A) (o : Input) (out : Outcome A) → Read (rule a) i x o → Told (many rule x) o out → Told (many rule a) i out
   told_turn a i x o (Ok p) r k = record {
     word = r.word ++ k.word;
@@ -102,12 +101,12 @@ module _ {A : Type 0} {V : ℕ → Type 0} {test : List Lexeme → Bool} {step :
   same_loop (suc n) zero a last d v u t r1 r2 le1 le2 = absurd (omega (arith, le2, length-append u (t ∷ r2)))
   same_loop (suc n) (suc m) a last d v u t r1 r2 le1 le2 =
       rw (one_of_both test h.one u t r1 r2) (same_turn (test (u ++ t ∷ r2)) a d last u t r1 r2 (loop test step n) (loop test step m) (step a (input last d (u ++ t ∷ r1))) (step a (input last d (u ++ t ∷ r2)))
-        (local_bind (rule a) (many rule) (loop test step n) (loop test step m) (input last d (u ++ t ∷ r1)) t r1 r2 (step a (input last d (u ++ t ∷ r1))) (step a (input last d (u ++ t ∷ r2)))
-          ((h.exact a).told (input last d (u ++ t ∷ r1)) v) ((h.exact a).local last d v u t r1 r2)
-          (λ x o r. told_loop n x o (h.carry a d r.word x o.depth v r.spelled r.within))
-          (λ x o r u' eq. same_loop n m x o.last o.depth (h.carry a d r.word x o.depth v r.spelled r.within) u' t r1 r2
-            (omega (arith, le1, h.longer a d r.word x o.depth r.spelled, ap length r.tokens, length-append (lexemes_of r.word) o.rest, length-lexemes_of r.word, ap length eq))
-            (shorter d u u' t r1 r2 m o.rest r.word (h.longer a d r.word x o.depth r.spelled) r.tokens eq le2))))
+      (local_bind (rule a) (many rule) (loop test step n) (loop test step m) (input last d (u ++ t ∷ r1)) t r1 r2 (step a (input last d (u ++ t ∷ r1))) (step a (input last d (u ++ t ∷ r2)))
+      ((h.exact a).told (input last d (u ++ t ∷ r1)) v) ((h.exact a).local last d v u t r1 r2)
+      (λ x o r. told_loop n x o (h.carry a d r.word x o.depth v r.spelled r.within))
+      (λ x o r u' eq. same_loop n m x o.last o.depth (h.carry a d r.word x o.depth v r.spelled r.within) u' t r1 r2
+      (omega (arith, le1, h.longer a d r.word x o.depth r.spelled, ap length r.tokens, length-append (lexemes_of r.word) o.rest, length-lexemes_of r.word, ap length eq))
+      (shorter d u u' t r1 r2 m o.rest r.word (h.longer a d r.word x o.depth r.spelled) r.tokens eq le2))))
 
 pub exact_repeated : {A : Type 0} {V : ℕ → Type 0} {test : List Lexeme → Bool} {step : A → Parser A} {rule : A → Rule A} {more more2 : List Lexeme → Bool} (h : Turn V test step rule more)
     → ((rest : List Lexeme) → more2 rest ≡ false → (test rest ≡ false) × (more rest ≡ false)) → (a : A) → Exact V (repeated test step a) (many rule a) more2

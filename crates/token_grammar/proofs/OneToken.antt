@@ -25,7 +25,6 @@ nothing_before v t r e = let n = ap length e in omega (arith, n, length-append v
 
 -- a test, and a lexeme that passes it
 module _ (test : Lexeme → Bool) (a : Lexeme) (passes : test a ≡ true) where
-
   told_by : (own more : ℕ) (i : Input) (t : Lexeme) (ts : List Lexeme) (b c : Bool) → test t ≡ b → ltb max_depth (i.depth + own) ≡ c → i.rest ≡ t ∷ ts
       → Told (token_as test own more) i (cond b (cond c (Err (record { code = TooDeep; rest = t ∷ ts })) (Ok (t, record { rest = ts; last = t.end; depth = i.depth + more }))) (Err (record { code = Grammar; rest = t ∷ ts })))
   told_by own more i t ts true true is deep e = record { word = []; more = (t, i.depth + own) ∷ []; value = t; depth = i.depth + more; tokens = e; spelled = (refl, is, refl); within = tt; reason = (refl, ltb-true _ _ deep) }
@@ -41,14 +40,14 @@ module _ (test : Lexeme → Bool) (a : Lexeme) (passes : test a ≡ true) where
 
   same_by : (own more d : ℕ) (z : Lexeme) (u : List Lexeme) (t : Lexeme) (r1 r2 : List Lexeme) (b c : Bool)
       → Same t r1 r2 (cond b (cond c (Err (record { code = TooDeep; rest = z ∷ (u ++ t ∷ r1) })) (Ok (z, record { rest = u ++ t ∷ r1; last = z.end; depth = d + more }))) (Err (record { code = Grammar; rest = z ∷ (u ++ t ∷ r1) })))
-          (cond b (cond c (Err (record { code = TooDeep; rest = z ∷ (u ++ t ∷ r2) })) (Ok (z, record { rest = u ++ t ∷ r2; last = z.end; depth = d + more }))) (Err (record { code = Grammar; rest = z ∷ (u ++ t ∷ r2) })))
+      (cond b (cond c (Err (record { code = TooDeep; rest = z ∷ (u ++ t ∷ r2) })) (Ok (z, record { rest = u ++ t ∷ r2; last = z.end; depth = d + more }))) (Err (record { code = Grammar; rest = z ∷ (u ++ t ∷ r2) })))
   same_by own more d z u t r1 r2 true true = λ v e. ap (λ (x : List Lexeme). Err (record { code = TooDeep; rest = x ++ t ∷ r2 })) (append_cancel_right (z ∷ u) v (t ∷ r1) e)
   same_by own more d z u t r1 r2 true false = λ v e. ap (λ (x : List Lexeme). Ok (z, record { rest = x ++ t ∷ r2; last = z.end; depth = d + more })) (append_cancel_right u v (t ∷ r1) e)
   same_by own more d z u t r1 r2 false c = λ v e. ap (λ (x : List Lexeme). Err (record { code = Grammar; rest = x ++ t ∷ r2 })) (append_cancel_right (z ∷ u) v (t ∷ r1) e)
 
   same_first : (own more d : ℕ) (t : Lexeme) (r1 r2 : List Lexeme) (b c : Bool)
       → Same t r1 r2 (cond b (cond c (Err (record { code = TooDeep; rest = t ∷ r1 })) (Ok (t, record { rest = r1; last = t.end; depth = d + more }))) (Err (record { code = Grammar; rest = t ∷ r1 })))
-          (cond b (cond c (Err (record { code = TooDeep; rest = t ∷ r2 })) (Ok (t, record { rest = r2; last = t.end; depth = d + more }))) (Err (record { code = Grammar; rest = t ∷ r2 })))
+      (cond b (cond c (Err (record { code = TooDeep; rest = t ∷ r2 })) (Ok (t, record { rest = r2; last = t.end; depth = d + more }))) (Err (record { code = Grammar; rest = t ∷ r2 })))
   same_first own more d t r1 r2 true true = λ v e. ap (λ (x : List Lexeme). Err (record { code = TooDeep; rest = x ++ t ∷ r2 })) (append_cancel_right [] v (t ∷ r1) e)
   same_first own more d t r1 r2 true false = λ v e. absurd (nothing_before v t r1 e)
   same_first own more d t r1 r2 false c = λ v e. ap (λ (x : List Lexeme). Err (record { code = Grammar; rest = x ++ t ∷ r2 })) (append_cancel_right [] v (t ∷ r1) e)

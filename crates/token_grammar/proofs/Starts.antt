@@ -129,10 +129,12 @@ pub starts_bind : {A B : Type 0} {L : Rule A} {M : A → Rule B} {ks : List Toke
 starts_bind h = record { sees = λ d w y e (u, v, x, m, eq, l, r) rest. rw (eq, lexemes_of-two u v rest) (h.sees d u x m l (lexemes_of v ++ rest)) }
 
 pub starts_or : {A : Type 0} {L M : Rule A} {js ks : List TokenKind} → Starts L js → Starts M ks → Starts (L or M) (js ++ ks)
-starts_or {A} {L} {M} {js} {ks} h k = record { sees = λ d w x e either rest. elim either [
-  | inl l ↦ any_left js ks (lexemes_of w ++ rest) (h.sees d w x e l rest)
-  | inr l ↦ any_right js ks (lexemes_of w ++ rest) (k.sees d w x e l rest)
-] }
+starts_or {A} {L} {M} {js} {ks} h k = record {
+  sees = λ d w x e either rest. elim either [
+    | inl l ↦ any_left js ks (lexemes_of w ++ rest) (h.sees d w x e l rest)
+    | inr l ↦ any_right js ks (lexemes_of w ++ rest) (k.sees d w x e l rest)
+  ];
+}
 
 pub starts_node : {A B : Type 0} (make : ℕ → ℕ → A → B) {L : Rule A} {ks : List TokenKind} → Starts L ks → Starts (node make L) ks
 starts_node make h = record { sees = λ d w y e (x, l, is) rest. h.sees d w x e l rest }

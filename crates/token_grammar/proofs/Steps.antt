@@ -85,8 +85,13 @@ end_is last (p ∷ q ∷ w) some = end_is p.0.end (q ∷ w) (omega arith)
 told_node : {A B : Type 0} (make : ℕ → ℕ → A → B) (L : Rule A) (i : Input) (out : Outcome A) → IsLong L → Told L i out → Told (node make L) i (with_place make (start i) out)
 told_node make L i (Ok p) long h =
     let some = long i.depth h.word p.0 p.1.depth h.spelled in
-    record { word = h.word; tokens = h.tokens; within = h.within; last = h.last;
-      spelled = (p.0, h.spelled, ap (λ (s : ℕ). make s p.1.last p.0) (start_is i.last h.word i.rest p.1.rest some h.tokens) ∙ ap (λ (e : ℕ). make (start_of h.word) e p.0) (h.last ∙ end_is i.last h.word some)) }
+    record {
+      word = h.word;
+      tokens = h.tokens;
+      within = h.within;
+      last = h.last;
+      spelled = (p.0, h.spelled, ap (λ (s : ℕ). make s p.1.last p.0) (start_is i.last h.word i.rest p.1.rest some h.tokens) ∙ ap (λ (e : ℕ). make (start_of h.word) e p.0) (h.last ∙ end_is i.last h.word some));
+    }
 told_node make L i (Err s) long h = record { word = h.word; more = h.more; value = make (start_of (h.word ++ h.more)) (end_of (h.word ++ h.more)) h.value; depth = h.depth; tokens = h.tokens; spelled = (h.value, h.spelled, refl); within = h.within; reason = h.reason }
 
 cond_place : {A B : Type 0} (make : ℕ → ℕ → A → B) (s : ℕ) (b : Bool) (stop : Stop) (x : Outcome A) (y : Outcome B) → with_place make s x ≡ y → with_place make s (cond b (Err stop) x) ≡ cond b (Err stop) y
@@ -109,9 +114,9 @@ pub exact_node : {A B : Type 0} {V : ℕ → Type 0} {p : Parser A} {L : Rule A}
 exact_node {A} {B} {V} {p} {L} make long h = record {
   told = λ i v. told_node make L i (p i) long (h.told i v);
   complete = λ d w y e v (x, l, is) last rest ends_here.
-    let some = long d w x e l in
-    let starts = start_is last w (lexemes_of w ++ rest) rest some refl in
-    rw (h.complete d w x e v l last rest ends_here, is, starts) (gate_node make (start_of w) w rest last x e ∙ ap (λ (n : ℕ). gate w rest last (make (start_of w) n x) e) (end_is last w some));
+      let some = long d w x e l in
+      let starts = start_is last w (lexemes_of w ++ rest) rest some refl in
+      rw (h.complete d w x e v l last rest ends_here, is, starts) (gate_node make (start_of w) w rest last x e ∙ ap (λ (n : ℕ). gate w rest last (make (start_of w) n x) e) (end_is last w some));
   local = λ last d v u t r1 r2. rw (same_start last d u t r1 r2) (same_node make _ t r1 r2 _ _ (h.local last d v u t r1 r2));
   some = λ d. let s = h.some d in record { word = s.word; value = make (start_of s.word) (end_of s.word) s.value; depth = s.depth; spelled = (s.value, s.spelled, refl) };
 }

@@ -4,7 +4,6 @@ use Rattle.token_grammar.specs.Texts.{Lexeme}
 use Rattle.token_grammar.specs.Input.{Input, Stop, Outcome, Parser, and_then, loop_by, loop}
 
 module _ {A : Type 0} (test : List Lexeme → Bool) (step : A → Parser A) (whole : Outcome A) (n at : ℕ) (a : A) (i : Input) where
-
   one_more : at < n → n - at ≡ suc (n - (at + 1))
   one_more below = omega arith
 

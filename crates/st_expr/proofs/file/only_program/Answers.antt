@@ -21,26 +21,27 @@ pub returns-then-is_empty : goal.returns-then-is_empty
 returns-then-is_empty c =
     let ls = lexemes c.args.tokens.now.text.now c.args.tokens.now.list.items in
     let e : p.program (input 0 0 ls) ≡ Ok (bare_unit c.in-Ok.unit, view c.program.new.self.cursor) =
-        subst (λ (i : Input). p.program i ≡ Ok (bare_unit c.in-Ok.unit, view c.program.new.self.cursor)) c.new-parser.ensures.view c.in-Ok.ensures.reads in
-    let none : c.program.new.self.cursor.rest.now ≡ [] = grind (arith, common_steps, c.is_empty.ensures, c.if-is_empty.true) in
-    (all_spelled ls (bare_unit c.in-Ok.unit) (view c.program.new.self.cursor) e (ap (lexemes c.program.new.self.cursor.text.now) none),
-     subst (λ (n : ℕ). CountsFrom n (unit_nodes c.in-Ok.unit)) c.new-parser.ensures.next c.in-Ok.ensures.numbers.0)
+    subst (λ (i : Input). p.program i ≡ Ok (bare_unit c.in-Ok.unit, view c.program.new.self.cursor)) c.new-parser.ensures.view c.in-Ok.ensures.reads in
+    let none : c.program.new.self.cursor.rest.now ≡ [] = grind (arith, common_steps, c.is_empty.ensures, c.if-is_empty.true) in (
+      all_spelled ls (bare_unit c.in-Ok.unit) (view c.program.new.self.cursor) e (ap (lexemes c.program.new.self.cursor.text.now) none),
+      subst (λ (n : ℕ). CountsFrom n (unit_nodes c.in-Ok.unit)) c.new-parser.ensures.next c.in-Ok.ensures.numbers.0,
+    )
 
 pub returns-else-is_empty : goal.returns-else-is_empty
 returns-else-is_empty c =
     let text = c.args.tokens.now.text.now in
     let ls = lexemes text c.args.tokens.now.list.items in
     let e : p.program (input 0 0 ls) ≡ Ok (bare_unit c.in-Ok.unit, view c.program.new.self.cursor) =
-        subst (λ (i : Input). p.program i ≡ Ok (bare_unit c.in-Ok.unit, view c.program.new.self.cursor)) c.new-parser.ensures.view c.in-Ok.ensures.reads in
+    subst (λ (i : Input). p.program i ≡ Ok (bare_unit c.in-Ok.unit, view c.program.new.self.cursor)) c.new-parser.ensures.view c.in-Ok.ensures.reads in
     let some : c.program.new.self.cursor.rest.now ≡ [] → ⊥ = λ none. grind (arith, common_steps, c.is_empty.ensures, c.if-is_empty.false) in
     rw c.fault_at.ensures
     (left_over text c.args.tokens.now.list.items (bare_unit c.in-Ok.unit) (view c.program.new.self.cursor) (place_at text (view c.program.new.self.cursor).rest) e
-      (some_left c.program.new.self.cursor.text.now c.program.new.self.cursor.rest.now some) refl)
+    (some_left c.program.new.self.cursor.text.now c.program.new.self.cursor.rest.now some) refl)
 
 pub returns-in-Err : goal.returns-in-Err
 returns-in-Err c =
     let text = c.args.tokens.now.text.now in
     let ls = lexemes text c.args.tokens.now.list.items in
     let e : c.in-Err.error ≢ Memory → p.program (input 0 0 ls) ≡ Err (record { code = c.in-Err.error; rest = (view c.program.new.self.cursor).rest }) = λ some.
-        subst (λ (i : Input). p.program i ≡ Err (record { code = c.in-Err.error; rest = (view c.program.new.self.cursor).rest })) c.new-parser.ensures.view (c.in-Err.ensures.reads some) in
+    subst (λ (i : Input). p.program i ≡ Err (record { code = c.in-Err.error; rest = (view c.program.new.self.cursor).rest })) c.new-parser.ensures.view (c.in-Err.ensures.reads some) in
     rw c.fault_at-in-Err.ensures (refused text c.args.tokens.now.list.items c.in-Err.error (view c.program.new.self.cursor).rest e)

@@ -28,7 +28,7 @@ returns c =
     let old = known_in c.args.self.now in
     let new = known_in (record { names = c.insert.new.self }) in
     let same : (q : List ℕ) → bytes_eq name q ≡ true → new q ≡ cond (bytes_eq name q) true (old q) =
-        λ q e. subst (λ (bytes : List ℕ). new bytes ≡ true) ((bytes_decides name q).0 e) h.1 ∙ sym (cond-true (bytes_eq name q) true (old q) e) in
+    λ q e. subst (λ (bytes : List ℕ). new bytes ≡ true) ((bytes_decides name q).0 e) h.1 ∙ sym (cond-true (bytes_eq name q) true (old q) e) in
     let others : (q : List ℕ) → bytes_eq name q ≡ false → new q ≡ cond (bytes_eq name q) true (old q) =
-        λ q e. keeps _ _ _ _ h.3 _ (λ x y. (eq_by_cmp_equiv nat_list_cmp_total).congr q x.items y.items) (λ key. apart name q key.items e) ∙ sym (cond-false (bytes_eq name q) true (old q) e) in
+    λ q e. keeps _ _ _ _ h.3 _ (λ x y. (eq_by_cmp_equiv nat_list_cmp_total).congr q x.items y.items) (λ key. apart name q key.items e) ∙ sym (cond-false (bytes_eq name q) true (old q) e) in
     known_one old new name (λ q. elim (cases_Bool (bytes_eq name q)) [ inl e ↦ same q e | inr e ↦ others q e ])

@@ -19,7 +19,7 @@ returns-then-not-sees-clause-reads c =
 pub returns-in_err-declaration-clause-reads : goal.returns-in_err-declaration-clause-reads
 returns-in_err-declaration-clause-reads c =
     let e : c.in_err-declaration.field-0.0 ≢ Memory → all (known_in c.args.declared.now) (view c.args.self.now.cursor) ≡ Err (record { code = c.in_err-declaration.field-0.0; rest = (view c.declaration.new.self.cursor).rest }) =
-        λ some. refused decls _ _ _ _ _ c.loop-turn._turn _ _ _ _ c.loop-turn.invariant c.loop-turn-test.true (sym c.sees.ensures ∙ c.if-not-sees.false) (c.in_err-declaration.ensures.reads some) in
+    λ some. refused decls _ _ _ _ _ c.loop-turn._turn _ _ _ _ c.loop-turn.invariant c.loop-turn-test.true (sym c.sees.ensures ∙ c.if-not-sees.false) (c.in_err-declaration.ensures.reads some) in
     first_of (search rules, grind (arith, common_steps))
 
 pub loop-turn-preserved : goal.loop-turn-preserved

@@ -16,8 +16,8 @@ returns-clause-ahead c =
     let number : operators false (view c.if-negative.self.cursor).rest ≡ operators true (view c.take-2.new.self).rest = ap (operators false) n.list ∙ after_number _ _ n.passed in
     let start = ap (λ cursor. operators false (view cursor).rest) (sym c.number.ensures.cursor) in
     elim c.if-negative.branch [
-    | then-negative+in_ok-take w ↦
-        (let m = taken (is_kind Minus) (view c.number.new.self.cursor) (lexeme c.number.new.self.cursor.text.now w.in_ok-take.field-0) (view w.take.new.self) w.in_ok-take.ensures.reads in
-        start ∙ ap (operators false) m.list ∙ after_minus false _ _ m.passed ∙ ap (λ self. operators false (view self.cursor).rest) (sym w.self-is) ∙ number)
-    | else-negative w ↦ start ∙ ap (λ self. operators false (view self.cursor).rest) (sym w.self-is) ∙ number
+      | then-negative+in_ok-take w ↦
+          (let m = taken (is_kind Minus) (view c.number.new.self.cursor) (lexeme c.number.new.self.cursor.text.now w.in_ok-take.field-0) (view w.take.new.self) w.in_ok-take.ensures.reads in
+          start ∙ ap (operators false) m.list ∙ after_minus false _ _ m.passed ∙ ap (λ self. operators false (view self.cursor).rest) (sym w.self-is) ∙ number)
+      | else-negative w ↦ start ∙ ap (λ self. operators false (view self.cursor).rest) (sym w.self-is) ∙ number
     ]

@@ -47,8 +47,8 @@ overflow_sub-outermost c =
 pub returns-in_err-value-2-clause-reads : goal.returns-in_err-value-2-clause-reads
 returns-in_err-value-2-clause-reads c =
     let e : c.in_err-value-2.field-0.0 ≢ Memory → sum (known_in c.args.declared.now) (view c.args.self.now.cursor) ≡ Err (record { code = c.in_err-value-2.field-0.0; rest = (view c.joined.new.self.cursor).rest }) =
-        λ some. turn_refused sees_operator (more_terms (known_in c.args.declared.now)) _ _ c.loop-turn._turn (bare_expr c.loop-turn.value) (view c.loop-turn.self.cursor) _
-            c.loop-turn-test.true c.loop-turn.invariant.read (sym c.sees_operator.ensures ∙ c.if-not-sees_operator.false) (c.in_err-value-2.ensures.reads some) in
+    λ some. turn_refused sees_operator (more_terms (known_in c.args.declared.now)) _ _ c.loop-turn._turn (bare_expr c.loop-turn.value) (view c.loop-turn.self.cursor) _
+    c.loop-turn-test.true c.loop-turn.invariant.read (sym c.sees_operator.ensures ∙ c.if-not-sees_operator.false) (c.in_err-value-2.ensures.reads some) in
     first_of (search rules, grind (arith, common_steps))
 
 pub loop-turn-preserved : goal.loop-turn-preserved
