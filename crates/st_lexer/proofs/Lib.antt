@@ -2,3 +2,4 @@ pub mod Words
 pub mod WordKinds
 pub mod Cuts
 pub mod OneCut
+pub mod Placed

@@ -72,9 +72,9 @@ size_is Foreign text rest (inr (byte, e, is)) = rw (e, is.no_word, no_colon byte
 
 -- ---- no token begins with white space, and none is empty
 
-record Starts (text : List ℕ) : Type 0 where
-  some : 0 < length text
-  dark : begins is_white text ≡ false
+pub record Starts (text : List ℕ) : Type 0 where
+  pub some : 0 < length text
+  pub dark : begins is_white text ≡ false
 
 word_dark : (b : ℕ) → in_word b ≡ true → is_white b ≡ false
 word_dark b is = grind (arith, nat_tests)
@@ -83,7 +83,7 @@ word_starts : (text rest : List ℕ) → IsWord text rest → Starts text
 word_starts [] rest is = absurd (omega (arith, is.some))
 word_starts (b ∷ bs) rest is = record { some = is.some; dark = word_dark b (word_first (b ∷ bs) rest is) }
 
-starts : (kind : TokenKind) (text rest : List ℕ) → IsText kind text rest → Starts text
+pub starts : (kind : TokenKind) (text rest : List ℕ) → IsText kind text rest → Starts text
 starts Program text rest is = word_starts text rest is.0
 starts EndProgram text rest is = word_starts text rest is.0
 starts Var text rest is = word_starts text rest is.0

@@ -1,7 +1,9 @@
 // The tokens of a whole text.
 
 ghost use Rattle.std.specs.Prelude.{◌≡◌, ℕ, List, IfOk};
+ghost use Rattle.std.specs.List.{Contains};
 ghost use Rattle.st_lexer.specs.Cut.{IsCut};
+ghost use Rattle.st_lexer.specs.Placed.{IsIn, IsShort};
 
 use crate::front::{Class, class_of, cut_front};
 use std::alloc::{AllocError, Global};
@@ -23,6 +25,8 @@ impl From<AllocError> for LexFault {
 pub fn tokens<'t>(alloc: Global, text: &'t [u8]) -> Result<Tokens<'t>, LexFault>
     ensures text { IfOk result (λ tokens. tokens.text.now ≡ text.now) }
     ensures cut { IfOk result (λ tokens. IsCut text.now tokens.list.items) }
+    ensures within { IfOk result (λ tokens. (t : Token) → Contains tokens.list.items t → IsIn text.now t) }
+    ensures short { IfOk result (λ tokens. (t : Token) → Contains tokens.list.items t → IsShort text.now t) }
 {
     let mut list = Vec::new(alloc);
     let mut at = 0;

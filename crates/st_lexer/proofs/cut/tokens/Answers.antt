@@ -1,9 +1,12 @@
 use Rattle.std.proofs.Common.{◌≡◌, ◌≤◌, List, ℕ, true, length, get_or, take, drop, refl, sym, ap, subst, ◌∙◌, arith}
 use Rattle.std.proofs.lemmas.List.{drop_more, length-drop}
+use Rattle.std.specs.List.{Contains}
 use Rattle.std.specs.Result.{is_ok}
+use Rattle.token_grammar.specs.declared.token.Token.{Token}
 use Rattle.st_lexer.specs.Cut.{IsText}
 use Rattle.st_lexer.proofs.Words.{to_end, white_class}
-use Rattle.st_lexer.proofs.Cuts.{completes_white, completes_token, completes_all}
+use Rattle.st_lexer.proofs.Cuts.{Completes, completes_white, completes_token, completes_all}
+use Rattle.st_lexer.proofs.Placed.{IsPlaced, placed}
 use Rattle.st_lexer.proofs.cut.tokens.Goals as goal
 
 pub cut-preserved-in-White : goal.cut-preserved-in-White
@@ -31,3 +34,13 @@ cut-preserved c =
 
 pub returns-clause-cut : goal.returns-clause-cut
 returns-clause-cut c = completes_all c.args.text.now c.cut.at c.cut.list.items (omega arith) c.cut.invariant.so_far
+
+-- the list at the return cuts the text
+each_placed : (text : List ℕ) (at : ℕ) (list : List Token) → length text ≤ at → Completes text at list → (t : Token) → Contains list t → IsPlaced text t
+each_placed text at list done so_far t among = placed text list (completes_all text at list done so_far) t among
+
+pub returns-clause-within : goal.returns-clause-within
+returns-clause-within c t among = (each_placed c.args.text.now c.cut.at c.cut.list.items (omega arith) c.cut.invariant.so_far t among).is_in
+
+pub returns-clause-short : goal.returns-clause-short
+returns-clause-short c t among = (each_placed c.args.text.now c.cut.at c.cut.list.items (omega arith) c.cut.invariant.so_far t among).short
