@@ -9,3 +9,4 @@ pub mod Fresh
 pub mod Exactness
 pub mod Flat
 pub mod Found
+pub mod OneTree
