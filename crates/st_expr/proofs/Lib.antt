@@ -10,3 +10,4 @@ pub mod Exactness
 pub mod Flat
 pub mod Found
 pub mod OneTree
+pub mod Spelled

@@ -48,7 +48,6 @@ same_length bare nodes bare_nodes x y e =
     sym (length-map (nodes y) bare_node) ∙ ap length (sym (bare_nodes y) ∙ ap nodes (sym e) ∙ bare_nodes x) ∙ length-map (nodes x) bare_node
 
 module _ {A : Type 0} {bare : A → A} {nodes : A → List Node} (one : Determines bare nodes) where
-
   both : {B : Type 0} {bare2 : B → B} {nodes2 : B → List Node} → Determines bare2 nodes2 → (x y : A) (x2 y2 : B) (n : ℕ) → bare x ≡ bare y → bare2 x2 ≡ bare2 y2
       → CountsFrom n (nodes x ++ nodes2 x2) → CountsFrom n (nodes y ++ nodes2 y2) → (x ≡ y) × (x2 ≡ y2)
   both {B} {bare2} {nodes2} other x y x2 y2 n e e2 a b =
