@@ -1,5 +1,6 @@
 pub mod FirstForm
 pub mod Answers
+pub mod Laws
 pub mod Parse
 pub mod Known
 pub mod Ahead

@@ -3,9 +3,11 @@
 
 mod declarations;
 mod file;
+mod law;
 mod names;
 mod parser;
 mod program;
 mod sums;
 
 pub use file::{ParseFault, first_form};
+pub use law::tree_laws;
