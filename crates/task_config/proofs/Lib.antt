@@ -1,4 +1,4 @@
--- What the code builds: Written, Places. That it is what the definitions say: Named, Numerals, Exact, Cells, Literals, Planned.
+-- What the code builds: Written, Places. That it is what the definitions say: Named, Numerals, Exact, Cells, Literals, Planned. The operators of a body: Operators, Apart, Held.
 pub mod Written
 pub mod Places
 pub mod Named
@@ -7,3 +7,6 @@ pub mod Exact
 pub mod Cells
 pub mod Literals
 pub mod Planned
+pub mod Operators
+pub mod Apart
+pub mod Held
