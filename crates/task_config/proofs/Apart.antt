@@ -11,13 +11,14 @@ use Rattle.st_tree.specs.declared.tree.Expr.TheVariants as expr
 use Rattle.st_tree.specs.declared.tree.Stmt.{Stmt}
 use Rattle.st_tree.specs.declared.tree.Stmt.TheVariants.{Assign}
 use Rattle.st_tree.specs.Nodes.{expr_nodes, path_nodes, stmt_nodes, CountsFrom}
-use Rattle.task_config.proofs.Operators.{expr_operators, stmt_operators, all_weaker, all_append}
+use Rattle.task_config.proofs.Operators.{expr_operators, stmt_operators}
+use Rattle.task_config.proofs.Lists.{all_weaker, all_append}
 
-counts_left : (n : ℕ) (xs ys : List Node) → CountsFrom n (xs ++ ys) → CountsFrom n xs
+pub counts_left : (n : ℕ) (xs ys : List Node) → CountsFrom n (xs ++ ys) → CountsFrom n xs
 counts_left n [] ys h = tt
 counts_left n (x ∷ xs) ys h = (h.0, counts_left (suc n) xs ys h.1)
 
-counts_right : (n : ℕ) (xs ys : List Node) → CountsFrom n (xs ++ ys) → CountsFrom (n + length xs) ys
+pub counts_right : (n : ℕ) (xs ys : List Node) → CountsFrom n (xs ++ ys) → CountsFrom (n + length xs) ys
 counts_right n [] ys h = subst (λ m. CountsFrom m ys) (sym (add-zero n)) h
 counts_right n (x ∷ xs) ys h = let e : suc n + length xs ≡ n + length (x ∷ xs) = omega arith in subst (λ m. CountsFrom m ys) e (counts_right (suc n) xs ys h.1)
 

@@ -12,7 +12,8 @@ use Rattle.st_tree.specs.declared.tree.Expr.TheVariants as expr
 use Rattle.st_tree.specs.declared.tree.Stmt.{Stmt}
 use Rattle.st_tree.specs.declared.tree.Stmt.TheVariants.{Assign}
 use Rattle.st_tree.specs.Nodes.{expr_nodes, path_nodes, stmt_nodes}
-use Rattle.task_config.proofs.Operators.{expr_operators, stmt_operators, all_weaker, all_append}
+use Rattle.task_config.proofs.Operators.{expr_operators, stmt_operators}
+use Rattle.task_config.proofs.Lists.{all_weaker, all_append}
 
 -- a statement of the body holds the node of a site of this file
 pub record IsHeld (body : List Stmt) (site : Site) : Type 0 where
@@ -21,11 +22,11 @@ pub record IsHeld (body : List Stmt) (site : Site) : Type 0 where
   pub there : Contains body stmt
   pub holds : Contains (map (λ (node : Node). node.number) (stmt_nodes stmt)) site.node
 
-numbers_more : (xs ys : List Node) (number : NodeNo) → Contains (map (λ (node : Node). node.number) ys) number → Contains (map (λ (node : Node). node.number) (xs ++ ys)) number
+pub numbers_more : (xs ys : List Node) (number : NodeNo) → Contains (map (λ (node : Node). node.number) ys) number → Contains (map (λ (node : Node). node.number) (xs ++ ys)) number
 numbers_more xs ys number c =
     subst (λ (l : List NodeNo). Contains l number) (sym (map-append (λ (node : Node). node.number) xs ys)) (Contains-append_right (map (λ (node : Node). node.number) xs) _ number c)
 
-numbers_less : (xs ys : List Node) (number : NodeNo) → Contains (map (λ (node : Node). node.number) xs) number → Contains (map (λ (node : Node). node.number) (xs ++ ys)) number
+pub numbers_less : (xs ys : List Node) (number : NodeNo) → Contains (map (λ (node : Node). node.number) xs) number → Contains (map (λ (node : Node). node.number) (xs ++ ys)) number
 numbers_less xs ys number c =
     subst (λ (l : List NodeNo). Contains l number) (sym (map-append (λ (node : Node). node.number) xs ys)) (Contains-append_left _ (map (λ (node : Node). node.number) ys) number c)
 

@@ -1,4 +1,5 @@
 -- What the code builds: Written, Places. That it is what the definitions say: Named, Numerals, Exact, Cells, Literals, Planned. The operators of a body: Operators, Apart, Held.
+pub mod Lists
 pub mod Written
 pub mod Places
 pub mod Named
