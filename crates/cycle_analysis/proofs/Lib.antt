@@ -1,4 +1,4 @@
--- Rows of intervals and the code of a pass: Indices, Going. The theorem over all runs: Lists, Intervals, Invariant, Steps, Runs. The answer of `solve`: Rows, Monotone, Rounds.
+-- Rows of intervals and the code of a pass: Indices, Going. The theorem over all runs: Lists, Intervals, Invariant, Steps, Runs. The answer of `solve`: Rows, Monotone, Rounds. The alarms of a log: Sites, Told, Rising.
 pub mod Indices
 pub mod Rows
 pub mod Going
@@ -9,3 +9,6 @@ pub mod Steps
 pub mod Runs
 pub mod Monotone
 pub mod Rounds
+pub mod Sites
+pub mod Told
+pub mod Rising

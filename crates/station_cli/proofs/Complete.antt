@@ -3,11 +3,11 @@ use Rattle.std.proofs.Common.{◌≡◌, ◌⊎◌, ℕ, ◌<◌, ◌≤◌, Lis
 use Rattle.std.specs.Prelude.{Option, Result}
 use Rattle.std.specs.Io.KnownBytes.{Appends}
 use Rattle.station_ports.specs.Views.{PortView}
-use Rattle.station_ports.specs.Calls.{Rose, IsPut, IsContent}
+use Rattle.station_ports.specs.Calls.{Rose, IsPut}
 use Rattle.station_ports.specs.declared.outside.PutRefusal.{PutRefusal}
 use Rattle.station_ports.specs.declared.outside.PutRefusal.TheVariants as refusal
 use Rattle.station_cli.specs.Words.{Command, check, command_of}
-use Rattle.station_cli.specs.Run.{World, Course, misused, checked, too_long, unread, out_of_memory, Happens, status_of, text_of, is_settled, max_file, after_fault, status_after, IsWork, IsWritten}
+use Rattle.station_cli.specs.Run.{World, Course, misused, checked, too_long, unread, out_of_memory, Happens, status_of, is_settled, max_file, after_fault, status_after, IsWork, IsWritten}
 use Rattle.station_cli.specs.Causes.{IsCalm, Completes, Ends, EndsTooLong, IsToldAbove}
 use Rattle.station_cli.specs.declared.status.Status.{Status}
 use Rattle.station_cli.specs.declared.status.Status.TheVariants.{Clean, Open, Refused, Usage, ReadFault, WriteFault, NoMemory, TooLong}

@@ -1,1 +1,10 @@
+-- That a run is complete: Complete. That a report on a tree is the defined one: Lists, Statements, Holders, Entries, RangeLines, Planned, Alarms, Made.
 pub mod Complete
+pub mod Lists
+pub mod Statements
+pub mod Holders
+pub mod Entries
+pub mod RangeLines
+pub mod Planned
+pub mod Alarms
+pub mod Made

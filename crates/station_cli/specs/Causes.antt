@@ -3,11 +3,11 @@
 use Rattle.std.specs.Prelude.{◌≡◌, ◌⊎◌, ◌<◌, ℕ, List, Option, Some, length, true}
 use Rattle.std.specs.Io.KnownBytes.{Appends}
 use Rattle.station_ports.specs.Calls.{IsTooLong, Rose}
-use Rattle.station_ports.specs.Views.{FilesView, PortView}
-use Rattle.station_cli.specs.Words.{Command, check, command_of}
+use Rattle.station_ports.specs.Views.{PortView}
+use Rattle.station_cli.specs.Words.{check, command_of}
 use Rattle.station_cli.specs.Run.{World, Course, Happens, max_file, status_of, text_of, is_settled}
 use Rattle.station_cli.specs.declared.status.Status.{Status}
-use Rattle.station_cli.specs.declared.status.Status.TheVariants.{NoMemory, WriteFault, ReadFault, TooLong}
+use Rattle.station_cli.specs.declared.status.Status.TheVariants.{NoMemory, WriteFault, TooLong}
 
 -- the words name a file that is above the limit
 pub record IsAboveLimit (words : List (List ℕ)) (old : World) : Type 0 where

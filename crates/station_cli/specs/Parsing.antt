@@ -1,5 +1,12 @@
 -- What the text of a file is parsed to: a form of the code between its steps, without a source of its own.
-use Rattle.std.specs.Prelude.{◌≡◌, length}
+use Rattle.std.specs.Prelude.{◌≡◌, ◌≤◌, ℕ, List, [], ◌∷◌, length}
+use Rattle.std.specs.List.{Contains}
+use Rattle.st_tree.specs.declared.node.Node.{Node}
+use Rattle.st_tree.specs.declared.tree.Unit.{Unit as SourceUnit}
+use Rattle.st_tree.specs.declared.tree.SourceTree.{SourceTree}
+use Rattle.st_tree.specs.Feeds.{feeds_from}
+use Rattle.st_tree.specs.Names.{UsesDeclared}
+use Rattle.st_tree.specs.Nodes.{IsNumbered, nodes_of}
 use Rattle.station_cli.specs.declared.report.Parsed.{Parsed}
 use Rattle.station_cli.specs.declared.report.Parsed.TheVariants.{Tree, Fault}
 
@@ -7,3 +14,13 @@ use Rattle.station_cli.specs.declared.report.Parsed.TheVariants.{Tree, Fault}
 abbrev pub IsOneUnit : Parsed → Type 0
 IsOneUnit (Tree tree) = length tree.units ≡ 1
 IsOneUnit (Fault fault) = Unit {0}
+
+-- What the parser promises of a tree of a text, so that it can be analysed.
+pub record IsAnalysable (text : List ℕ) (tree : SourceTree) : Type 0 where
+  pub unit : SourceUnit
+  pub units : tree.units ≡ unit ∷ []
+  pub uses : UsesDeclared unit
+  pub numbered : IsNumbered tree
+  pub feeds : tree.feeds ≡ feeds_from 0 text
+  pub within : (node : Node) → Contains (nodes_of tree) node → node.start ≤ length text
+  pub short : length text ≤ 1048576

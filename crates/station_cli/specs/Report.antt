@@ -1,9 +1,9 @@
--- The report on a file that its text defines. Source: this profile. The code makes it step by step; that it is this one is not proved yet.
-use Rattle.std.specs.Prelude.{◌≡◌, ◌⊎◌, ℕ, ◌<◌, List, [], ◌∷◌, map, length, Option, Some, slice_get, ℤ}
+-- The report on a file that its text defines. Source: this profile. The code makes it step by step.
+use Rattle.std.specs.Prelude.{◌≡◌, ◌⊎◌, ℕ, ◌<◌, List, [], ◌∷◌, map, Some, slice_get, ℤ}
 use Rattle.std.specs.List.{Contains}
 use Rattle.iec_tables.specs.declared.kind.Kind.{Kind}
 use Rattle.iec_tables.specs.Kinds as kinds
-use Rattle.interval_domain.specs.Interval.{Interval, Empty, Span, IsWithin, hull}
+use Rattle.interval_domain.specs.Interval.{Interval, Span, IsWithin}
 use Rattle.interval_domain.specs.Grid.{IsGrid}
 use Rattle.st_tree.specs.declared.node.Site.{Site}
 use Rattle.st_tree.specs.declared.fault.FaultCode.TheVariants.{NotBuilt}
@@ -11,7 +11,6 @@ use Rattle.st_tree.specs.declared.tree.Stmt.{Stmt}
 use Rattle.st_tree.specs.declared.tree.Stmt.TheVariants.{Assign}
 use Rattle.st_tree.specs.declared.tree.Unit.{Unit as SourceUnit}
 use Rattle.st_tree.specs.declared.tree.SourceTree.{SourceTree}
-use Rattle.st_tree.specs.declared.code.CellInfo.{CellInfo}
 use Rattle.st_tree.specs.declared.code.TaskCode.{TaskCode}
 use Rattle.st_tree.specs.declared.code.Component.{Component}
 use Rattle.st_tree.specs.Nodes.{stmt_nodes}
@@ -19,9 +18,9 @@ use Rattle.token_grammar.specs.declared.token.Token.{Token}
 use Rattle.st_lexer.specs.Cut.{IsCut}
 use Rattle.st_expr.specs.FirstForm.{IsTree, IsRefused}
 use Rattle.task_config.specs.Plan.{IsComponent}
-use Rattle.cycle_analysis.specs.Pass.{Entry as Told, Wrote, Alarm as Alarmed}
+use Rattle.cycle_analysis.specs.Pass.{Entry as Told, Alarm as Alarmed}
 use Rattle.cycle_analysis.specs.Table.{Part, part_at, pass_of, own_range, IsSolution}
-use Rattle.finding_spans.specs.Places.{IsPosition, IsReportedAt, stmt_node}
+use Rattle.finding_spans.specs.Places.{IsPosition, IsReportedAt}
 use Rattle.finding_spans.specs.declared.report.Alarm.{Alarm}
 use Rattle.finding_spans.specs.declared.report.Refusal.{Refusal}
 use Rattle.finding_spans.specs.declared.report.Entry.{Entry}
@@ -88,17 +87,13 @@ pub record AreRanges (task : TaskCode) (table : List Part) (lines : List RangeLi
 
 -- ---- the report
 
--- The report on a text that is analysed.
-pub record IsAnalysed (name text : List ℕ) (report : Report) : Type 0 where
-  pub tokens : List Token
-  pub tree : SourceTree
+-- The report on a tree of a text.
+pub record IsReportOf (name text : List ℕ) (tree : SourceTree) (report : Report) : Type 0 where
   pub unit : SourceUnit
   pub component : Component
   pub task : TaskCode
   pub grid : List ℤ
   pub table : List Part
-  pub cut : IsCut text tokens
-  pub spelled : IsTree text tokens tree
   pub units : tree.units ≡ unit ∷ []
   pub planned : IsComponent unit component
   pub tasks : component.tasks ≡ task ∷ []
@@ -109,6 +104,14 @@ pub record IsAnalysed (name text : List ℕ) (report : Report) : Type 0 where
   pub no_refusal : (refusal : Refusal) → report.verdict ≡ verdict.Refused refusal → ⊥
   pub counted : IsCounted report
   pub waived : report.waived_count ≡ 0
+
+-- The report on a text that is analysed.
+pub record IsAnalysed (name text : List ℕ) (made : Report) : Type 0 where
+  pub tokens : List Token
+  pub tree : SourceTree
+  pub cut : IsCut text tokens
+  pub spelled : IsTree text tokens tree
+  pub report : IsReportOf name text tree made
 
 -- The report on a text that is refused.
 pub record IsRefusal (name text : List ℕ) (report : Report) : Type 0 where

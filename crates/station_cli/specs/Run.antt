@@ -1,7 +1,7 @@
 -- What a call of the program does. A call takes one course: each has its cause, the status it ends with and the bytes it writes.
 -- A further command adds its courses, and a further object of the outside its field of World.
 -- Source: this profile. The code works through the words, the file, the report and the put in this order.
-use Rattle.std.specs.Prelude.{◌≡◌, ℕ, ◌++◌, List, Option, Some, None, Result, Ok, Err, ⊤, codes, length, Bool, true, false}
+use Rattle.std.specs.Prelude.{◌≡◌, ℕ, ◌++◌, List, Option, Some, None, Result, Ok, Err, ⊤, codes, Bool, true, false}
 use Rattle.station_ports.specs.Views.{FilesView, PortView}
 use Rattle.station_ports.specs.Calls.{Rose, IsContent, IsTooLong, IsPut}
 use Rattle.station_ports.specs.declared.outside.PutRefusal.{PutRefusal}

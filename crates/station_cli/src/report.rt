@@ -1,8 +1,14 @@
 // The report on a file: its text is cut into tokens, parsed, planned and analysed.
 
-ghost use Rattle.std.specs.Prelude.{◌≡◌, ℕ, List, IfOk, length};
+ghost use Rattle.std.specs.Prelude.{◌≡◌, ℕ, List, ◌++◌, IfOk, OnOk, length, flat_map};
+ghost use Rattle.std.specs.List.{AllByRecursion, Contains};
+ghost use Rattle.st_tree.specs.Nodes.{IsNumbered};
+ghost use Rattle.st_tree.specs.declared.tree.Unit.{Unit as SourceUnit};
+ghost use Rattle.finding_spans.specs.declared.report.Refusal.{Refusal as Reason};
 ghost use Rattle.station_cli.specs.Reports.{IsSound};
-ghost use Rattle.station_cli.specs.Parsing.{IsOneUnit};
+ghost use Rattle.station_cli.specs.Report.{IsReportOf, IsUnder, subject};
+ghost use Rattle.station_cli.specs.Parsing.{IsAnalysable, IsOneUnit};
+ghost use Rattle.station_cli.specs.Lines.{AreEntriesOf, IsAlarmOf, IsEntryOf, IsInBody, lines_of, range_line};
 
 use cycle_analysis::{Solution, solve};
 use finding_spans::{
@@ -13,7 +19,7 @@ use interval_domain::interval::Interval;
 use sqlite_items::Items;
 use st_expr::{ParseFault, first_form};
 use st_lexer::{LexFault, tokens};
-use st_tree::{CellInfo, Component, FaultCode, Hit, SourceTree, Stmt};
+use st_tree::{CellInfo, Component, FaultCode, Hit, NodeNo, SourceTree, Stmt};
 use station_ports::outside::NoMemory;
 use station_ports::steps::Steps;
 use station_ports::texts::{FileText, Name};
@@ -97,25 +103,38 @@ fn analysed<L: Ledger>(
     steps: &mut Steps<L>,
 ) -> Result<Report, NoMemory>
     requires { length tree.now.units ≡ 1 }
-    ensures { IfOk result (λ report. (text : List ℕ) → IsSound name.now text report) }
+    ensures sound { IfOk result (λ report. (text : List ℕ) → IsSound name.now text report) }
+    ensures report { IfOk result (λ report. (text : List ℕ) → IsAnalysable text tree.now → IsReportOf name.now text tree.now report) }
 {
     let component = plan(alloc, tree)?;
     let grid = Grid::of(alloc, component.literals.as_slice())?;
     let solution = solve(alloc, &component, &grid, steps)?;
     let alarms = alarm_entries(alloc, name, tree, &solution.alarms)?;
     let ranges = range_lines(alloc, &component, &solution)?;
+    Ok(report_of(alarms, ranges))
+}
+
+/// The report of these alarms, all open, and these ranges.
+fn report_of(alarms: Items<Entry<Alarm>>, ranges: Items<RangeLine>) -> Report
+    ensures alarms { result.alarms ≡ alarms }
+    ensures ranges { result.ranges ≡ ranges }
+    ensures sound { (name : List ℕ) (text : List ℕ) → IsSound name text result }
+    ensures no_refusal { (refusal : Reason) → result.verdict ≡ Verdict.Refused refusal → ⊥ }
+    ensures waived { result.waived_count ≡ 0 }
+{
     let count = alarms.len() as u64;
-    Ok(Report {
-        verdict: if count == 0 {
-            Verdict::Free
-        } else {
-            Verdict::Alarms(AlarmCount { count })
-        },
+    let verdict = if count == 0 {
+        Verdict::Free
+    } else {
+        Verdict::Alarms(AlarmCount { count })
+    };
+    Report {
+        verdict,
         alarms,
         ranges,
         open_count: count,
         waived_count: 0,
-    })
+    }
 }
 
 /// The alarms with their units, subjects and places.
@@ -124,28 +143,43 @@ fn alarm_entries(
     name: &str,
     tree: &SourceTree,
     hits: &[Hit],
-) -> Result<Items<Entry<Alarm>>, AllocError> {
+) -> Result<Items<Entry<Alarm>>, AllocError>
+    ensures { IfOk result (λ entries. (text : List ℕ) (is : IsAnalysable text tree.now) →
+        AllByRecursion (λ hit. IsInBody is.unit hit.site.node) hits.now → AreEntriesOf name.now text tree.now is.unit hits.now entries) }
+{
     let mut entries = Items::new(alloc);
     for hit in hits {
-        let span = place(tree, hit.site.node);
-        entries.push(Entry {
-            item: alarm_of(alloc, tree, *hit)?,
-            file: name_of(alloc, name.as_bytes())?,
-            line: span.line,
-            column: span.column,
-        })?;
+        entries.push(entry_of(alloc, name, tree, *hit)?)?;
     }
     Ok(entries)
 }
 
+/// An alarm with its unit, subject and place.
+fn entry_of(
+    alloc: Global,
+    name: &str,
+    tree: &SourceTree,
+    hit: Hit,
+) -> Result<Entry<Alarm>, AllocError>
+    ensures { IfOk result (λ entry. (text : List ℕ) (is : IsAnalysable text tree.now) → IsInBody is.unit hit.site.node →
+        IsEntryOf name.now text tree.now is.unit hit entry) }
+{
+    let span = place(tree, hit.site.node);
+    Ok(Entry {
+        item: alarm_of(alloc, tree, hit)?,
+        file: name_of(alloc, name.as_bytes())?,
+        line: span.line,
+        column: span.column,
+    })
+}
+
 /// An alarm under its unit and the first name of the path that its statement assigns.
-fn alarm_of(alloc: Global, tree: &SourceTree, hit: Hit) -> Result<Alarm, AllocError> {
-    let (unit, subject) = match statement_of(tree, hit.site.node) {
-        Some((unit, Stmt::Assign(_, target, _))) => {
-            (unit.name.name.bytes(), target.root.name.bytes())
-        }
-        None => (b"".as_slice(), b"".as_slice()),
-    };
+fn alarm_of(alloc: Global, tree: &SourceTree, hit: Hit) -> Result<Alarm, AllocError>
+    ensures alarm { IfOk result (λ alarm. IsAlarmOf hit alarm) }
+    ensures under { IfOk result (λ alarm. IsNumbered tree.now → (unit : SourceUnit) → Contains tree.now.units unit → IsInBody unit hit.site.node →
+        IsUnder unit alarm) }
+{
+    let (unit, subject) = unit_and_subject(tree, hit.site.node);
     Ok(Alarm {
         kind: hit.kind,
         unit: name_of(alloc, unit)?,
@@ -156,12 +190,35 @@ fn alarm_of(alloc: Global, tree: &SourceTree, hit: Hit) -> Result<Alarm, AllocEr
     })
 }
 
+/// The name of the unit and the first name of the assigned path of the statement that holds a node.
+fn unit_and_subject(tree: &SourceTree, node: NodeNo) -> (&[u8], &[u8])
+    ensures { IsNumbered tree.now → (unit : SourceUnit) → Contains tree.now.units unit → (in_body : IsInBody unit node) →
+        (result.0.now ≡ unit.name.name) × (result.1.now ≡ subject in_body.stmt) }
+{
+    match statement_of(tree, node) {
+        Some((unit, statement)) => (unit.name.name.bytes(), subject_of(statement)),
+        None => (b"".as_slice(), b"".as_slice()),
+    }
+}
+
+/// The first name of the path that a statement assigns.
+fn subject_of(statement: &Stmt) -> &[u8]
+    ensures { result.now ≡ subject statement.now }
+{
+    match statement {
+        Stmt::Assign(_, target, _) => target.root.name.bytes(),
+    }
+}
+
 /// The ranges of the cells: those that are shared first, then those of the tasks.
 fn range_lines(
     alloc: Global,
     component: &Component,
     solution: &Solution,
-) -> Result<Items<RangeLine>, AllocError> {
+) -> Result<Items<RangeLine>, AllocError>
+    ensures { IfOk result (λ lines. lines ≡ lines_of component.now.shared solution.now.ranges.shared.items
+        ++ flat_map (λ task. lines_of task.cells solution.now.ranges.own.items) component.now.tasks) }
+{
     let mut lines = Items::new(alloc);
     add_lines(
         alloc,
@@ -186,16 +243,25 @@ fn add_lines(
     cells: &[CellInfo],
     ranges: &[Interval],
     lines: &mut Items<RangeLine>,
-) -> Result<(), AllocError> {
+) -> Result<(), AllocError>
+    ensures { OnOk result (lines.new ≡ lines.old ++ lines_of cells.now ranges.now) }
+{
     for (cell, range) in cells.iter().zip(ranges) {
-        let (low, high) = range.bounds().unwrap_or((cell.start, cell.start));
-        lines.push(RangeLine {
-            name: name_of(alloc, cell.path.bytes())?,
-            low,
-            high,
-        })?;
+        lines.push(range_line(alloc, cell, *range)?)?;
     }
     Ok(())
+}
+
+/// The line of a cell. A cell has its start value, so that its range is never empty.
+fn range_line(alloc: Global, cell: &CellInfo, range: Interval) -> Result<RangeLine, AllocError>
+    ensures { IfOk result (λ line. line ≡ range_line cell.now range) }
+{
+    let (low, high) = range.bounds().unwrap_or((cell.start, cell.start));
+    Ok(RangeLine {
+        name: name_of(alloc, cell.path.bytes())?,
+        low,
+        high,
+    })
 }
 
 fn name_of(alloc: Global, bytes: &[u8]) -> Result<Name, AllocError>

@@ -1,5 +1,5 @@
 -- The code as it is built.
-use Rattle.std.proofs.Common.{◌≡◌, ◌≤◌, ◌<◌, ℕ, List, ◌++◌, Option, refl, subst, rules, arith}
+use Rattle.std.proofs.Common.{◌≡◌, ◌≤◌, ◌<◌, ℕ, List, ◌++◌, Option, refl, subst, arith}
 use Rattle.st_tree.specs.declared.tree.Expr.TheBlock as block
 use denote.Hole.Rolled.{depth_falls, depth_is}
 use Rattle.iec_tables.specs.declared.elem.Elem.TheVariants as elem

@@ -1,28 +1,25 @@
 -- The component of a file: its tasks, their cells and their code. Source: this profile, in which a project with one PROGRAM and no
 -- CONFIGURATION has one task MAIN. The code builds instructions from the last one on and looks names up in a map.
-use Rattle.std.specs.Prelude.{◌≡◌, ℕ, suc, Bool, if◌then◌else◌, bytes_eq, List, [], ◌∷◌, ◌++◌, map, flat_map, position, option_map, option_and_then, ◌↔◌, Option, Some, None, codes, ℤ, pos, neg_ℤ}
+use Rattle.std.specs.Prelude.{◌≡◌, ℕ, if◌then◌else◌, bytes_eq, List, [], ◌∷◌, ◌++◌, map, flat_map, position, option_map, option_and_then, ◌↔◌, Option, Some, codes, ℤ, pos, neg_ℤ}
 use Rattle.std.specs.List.{Contains}
 use Rattle.iec_tables.specs.declared.elem.Elem.{Elem}
 use Rattle.iec_tables.specs.declared.elem.Elem.TheVariants as elem
-use Rattle.st_tree.specs.declared.node.Node.{Node}
 use Rattle.st_tree.specs.declared.tree.Identifier.{Identifier}
 use Rattle.st_tree.specs.declared.tree.Path.{Path}
 use Rattle.st_tree.specs.declared.tree.Literal.{Literal as Numeral}
-use Rattle.st_tree.specs.declared.tree.Operator.{Operator}
 use Rattle.st_tree.specs.declared.tree.Expr.{Expr, more_of-Expr, end_of-Expr}
 use Rattle.st_tree.specs.declared.tree.Expr.TheVariants as expr
 use Rattle.st_tree.specs.declared.tree.Stmt.{Stmt}
 use Rattle.st_tree.specs.declared.tree.Stmt.TheVariants.{Assign}
 use Rattle.st_tree.specs.declared.tree.Decl.{Decl}
-use Rattle.st_tree.specs.declared.tree.Section.{Section}
 use Rattle.st_tree.specs.declared.tree.Unit.{Unit as SourceUnit}
-use Rattle.st_tree.specs.declared.tree.SourceTree.{SourceTree}
 use Rattle.st_tree.specs.declared.code.Cell.{Cell}
 use Rattle.st_tree.specs.declared.code.Cell.TheVariants.{Own}
 use Rattle.st_tree.specs.declared.code.CellInfo.{CellInfo}
 use Rattle.st_tree.specs.declared.code.TaskCode.{TaskCode}
 use Rattle.st_tree.specs.declared.code.Component.{Component}
 use Rattle.st_tree.specs.Code.{Instructions, Done, Literal, Read, Operate, Write, reading}
+use Rattle.st_tree.specs.Names.{unit_names}
 
 -- ---- cells: one a variable, in the order of the declarations, each starting at 0
 
@@ -34,10 +31,6 @@ decl_cells decl = map (cell_of decl.spec.elem) decl.names
 
 abbrev pub unit_cells : SourceUnit → List CellInfo
 unit_cells unit = flat_map (λ section. flat_map decl_cells section.decls) unit.sections
-
--- the names of the variables, in the same order
-abbrev pub unit_names : SourceUnit → List (List ℕ)
-unit_names unit = flat_map (λ section. flat_map (λ decl. map (λ identifier. identifier.name) decl.names) section.decls) unit.sections
 
 -- ---- code: each part in the order in which it is taken
 

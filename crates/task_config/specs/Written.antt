@@ -1,6 +1,6 @@
--- The code as it is built, from a map of the names: also where a name has no place, or a numeral is too large. Where the definitions of
--- `Plan` give code and the numerals fit, it is theirs.
-use Rattle.std.specs.Prelude.{◌≡◌, ℕ, ◌<◌, ◌^◌, ◌-◌, List, [], ◌∷◌, ◌++◌, if◌then◌else◌, nat_lt, flat_map, position, bytes_eq, option_map, unwrap_or, is_some, ◌↔◌, Option, Some, None, codes, ℤ, pos, neg_ℤ}
+-- The code as it is built, from a map of the names: also where a name has no place, or a numeral is too large. Where a body names declared
+-- variables alone and its numerals fit, it is that of `Plan`.
+use Rattle.std.specs.Prelude.{◌≡◌, ℕ, ◌^◌, ◌-◌, List, [], ◌∷◌, ◌++◌, if◌then◌else◌, nat_lt, flat_map, position, bytes_eq, unwrap_or, is_some, Option, Some, codes, ℤ, pos, neg_ℤ}
 use Rattle.std.specs.BTreeMap.{BTreeMap, get_by}
 use Rattle.std.specs.Cmp.Lexicographic.{slice_cmp}
 use Rattle.std.specs.Ordering.{nat_cmp}
@@ -18,21 +18,7 @@ use Rattle.st_tree.specs.declared.code.CellInfo.{CellInfo}
 use Rattle.st_tree.specs.declared.code.TaskCode.{TaskCode}
 use Rattle.st_tree.specs.declared.code.Component.{Component}
 use Rattle.st_tree.specs.Code.{Instructions, Done, Literal, Read, Operate, Write, reading}
-use Rattle.task_config.specs.Plan.{unit_cells, IsTask}
-
--- ---- which numerals fit
-
-abbrev pub NumeralFits : Numeral → Type 0
-NumeralFits numeral = numeral.size < 2 ^ 127
-
-abbrev pub ExprFits : Expr → Type 0
-ExprFits (expr.Number node numeral) = NumeralFits numeral
-ExprFits (expr.Variable path) = Unit {0}
-ExprFits (expr.Binary' node operator l (more_of-Expr left end_of-Expr) r (more_of-Expr right end_of-Expr)) = ExprFits left × ExprFits right
-
-abbrev pub BodyFits : List Stmt → Type 0
-BodyFits [] = Unit {0}
-BodyFits (Assign node target value ∷ body) = ExprFits value × BodyFits body
+use Rattle.task_config.specs.Plan.{unit_cells}
 
 -- ---- the names
 
@@ -94,12 +80,6 @@ pub record IsWritten (unit : SourceUnit) (component : Component) : Type 0 where
   pub is_task : IsWrittenTask unit task
   pub shared : component.shared ≡ []
   pub literals : component.literals ≡ flat_map literals_of_stmt unit.body
-
--- The one task is that of the unit.
-pub record HasTask (unit : SourceUnit) (component : Component) : Type 0 where
-  pub task : TaskCode
-  pub tasks : component.tasks ≡ task ∷ []
-  pub is_task : IsTask unit task
 
 -- the tasks of these units
 abbrev pub AreTasks : List SourceUnit → List TaskCode → Type 0

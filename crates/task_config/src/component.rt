@@ -1,10 +1,12 @@
 // The component of a file: the task MAIN of its one program, with a cell for each variable.
 
 ghost use Rattle.std.specs.Prelude.{◌≡◌, ℕ, List, [], ◌∷◌, ◌++◌, IfOk, OnOk, length, flat_map};
-ghost use Rattle.st_tree.specs.Code.{Instructions, reading};
+ghost use Rattle.st_tree.specs.Code.{reading};
+ghost use Rattle.st_tree.specs.Names.{UsesDeclared};
+ghost use Rattle.st_tree.specs.Writes.{WritesCells};
 ghost use Rattle.st_tree.specs.declared.tree.Unit.{Unit as SourceUnit};
-ghost use Rattle.task_config.specs.Plan.{cell_of, decl_cells, unit_cells, unit_names, body_code};
-ghost use Rattle.task_config.specs.Written.{place_in, place_among, with_place, written_body, BodyFits, IsWritten, HasTask};
+ghost use Rattle.task_config.specs.Plan.{cell_of, decl_cells, unit_cells, IsComponent};
+ghost use Rattle.task_config.specs.Written.{place_in, place_among, with_place, written_body, IsWritten};
 
 use crate::code::{Cells, body_code, collect_literals};
 use sqlite_items::Items;
@@ -18,7 +20,8 @@ use std::collections::BTreeMap;
 pub fn plan(alloc: Global, tree: &SourceTree) -> Result<Component, NoMemory>
     ensures tasks { IfOk result (λ component. length component.tasks ≡ length tree.now.units) }
     ensures written { (unit : SourceUnit) → tree.now.units ≡ unit ∷ [] → IfOk result (λ component. IsWritten unit component) }
-    ensures exact { (unit : SourceUnit) → tree.now.units ≡ unit ∷ [] → BodyFits unit.body → (x : Instructions) → body_code (unit_names unit) unit.body ≡ Some x → IfOk result (λ component. HasTask unit component) }
+    ensures component { (unit : SourceUnit) → tree.now.units ≡ unit ∷ [] → UsesDeclared unit → IfOk result (λ component. IsComponent unit component) }
+    ensures writes { (unit : SourceUnit) → tree.now.units ≡ unit ∷ [] → UsesDeclared unit → IfOk result WritesCells }
 {
     Ok(component_of(alloc, tree)?)
 }

@@ -11,4 +11,4 @@ at_text name text (Ok report) h = h text
 at_text name text (Err e) h = tt
 
 pub returns-in-Tree : goal.returns-in-Tree
-returns-in-Tree g c = at_text c.args.name.now c.args.text.now c.analysed.result c.analysed.ensures
+returns-in-Tree g c = at_text c.args.name.now c.args.text.now c.analysed.result c.analysed.ensures.sound

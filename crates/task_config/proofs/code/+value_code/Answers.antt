@@ -1,7 +1,7 @@
-use Rattle.std.proofs.Common.{◌≡◌, ◌≤◌, subst, ap, sym, ◌∙◌, arith}
+use Rattle.std.proofs.Common.{ap, arith}
 use Rattle.st_tree.specs.Code.{reading}
-use Rattle.st_tree.specs.declared.tree.Expr.{Expr, size-Expr}
-use Rattle.task_config.specs.Written.{place_in, written_value}
+use Rattle.st_tree.specs.declared.tree.Expr.{size-Expr}
+use Rattle.task_config.specs.Written.{place_in}
 use Rattle.task_config.proofs.Written.{binary_value, left_smaller}
 use Rattle.task_config.proofs.code.+value_code.Goals as goal
 

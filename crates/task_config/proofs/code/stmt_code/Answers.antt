@@ -1,7 +1,7 @@
-use Rattle.std.proofs.Common.{◌≡◌, refl, rules, ap, sym, ◌∙◌, subst}
-use Rattle.st_tree.specs.Code.{Instructions, Write, reading}
+use Rattle.std.proofs.Common.{refl, ap, sym, ◌∙◌}
+use Rattle.st_tree.specs.Code.{reading}
 use Rattle.st_tree.specs.declared.tree.Stmt.TheVariants.{Assign}
-use Rattle.task_config.specs.Written.{place_in, written_cell, written_value, written_stmt}
+use Rattle.task_config.specs.Written.{place_in}
 use Rattle.task_config.proofs.Written.{assign_case, reads_same}
 use Rattle.task_config.proofs.code.stmt_code.Goals as goal
 

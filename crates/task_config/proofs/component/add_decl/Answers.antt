@@ -1,7 +1,7 @@
-use Rattle.std.proofs.Common.{◌≡◌, ℕ, List, Bor, take, sym, ◌∙◌, arith}
+use Rattle.std.proofs.Common.{ℕ, List, Bor, take, arith}
 use Rattle.std.proofs.lemmas.Grind.{common_steps}
 use Rattle.task_config.specs.Plan.{cell_of}
-use Rattle.task_config.specs.Written.{place_in, place_among}
+use Rattle.task_config.specs.Written.{place_in}
 use Rattle.task_config.proofs.Places.{names_step, cells_step}
 use Rattle.task_config.proofs.component.add_decl.Goals as goal
 

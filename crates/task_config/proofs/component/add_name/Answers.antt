@@ -1,8 +1,8 @@
-use Rattle.std.proofs.Common.{◌≡◌, ℕ, List, Option, Some, Bor, false, rules, sym, ◌∙◌, arith}
+use Rattle.std.proofs.Common.{◌≡◌, ℕ, List, Some, Bor, false, ◌∙◌, arith}
 use Rattle.std.specs.Prelude.{is_some}
 use Rattle.std.proofs.lemmas.Grind.{common_steps}
 use Rattle.std.proofs.lemmas.Map.Text.{btree_map_updates_str}
-use Rattle.task_config.specs.Written.{place_in, with_place}
+use Rattle.task_config.specs.Written.{place_in}
 use Rattle.task_config.proofs.Places.{new_place}
 use Rattle.task_config.proofs.component.add_name.Goals as goal
 

@@ -1,4 +1,4 @@
-use Rattle.std.proofs.Common.{◌≡◌, ◌++◌, ◌∷◌, [], take, ◌+◌, ap, ◌∙◌, List, flat_map, arith}
+use Rattle.std.proofs.Common.{◌++◌, take, ◌+◌, ap, ◌∙◌, List, flat_map, arith}
 use Rattle.std.proofs.lemmas.Grind.{common_steps}
 use Rattle.st_tree.specs.declared.tree.Stmt.{Stmt}
 use Rattle.task_config.specs.Written.{literals_of_stmt}

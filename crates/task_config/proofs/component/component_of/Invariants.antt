@@ -1,5 +1,5 @@
 -- The tasks and the literals so far are those of the units so far.
-use Rattle.std.proofs.Common.{◌≡◌, ◌++◌, length, take}
+use Rattle.std.proofs.Common.{◌≡◌, length, take}
 use Rattle.std.specs.Prelude.{flat_map}
 use Rattle.task_config.specs.Written.{literals_of_stmt, AreTasks}
 use Rattle.task_config.proofs.component.component_of.Given as goal

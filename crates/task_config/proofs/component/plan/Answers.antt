@@ -1,5 +1,8 @@
-use Rattle.task_config.proofs.Exact.{has_task}
+use Rattle.task_config.proofs.Planned.{is_component, writes_cells}
 use Rattle.task_config.proofs.component.plan.Goals as goal
 
-pub returns-clause-exact : goal.returns-clause-exact
-returns-clause-exact c = λ unit e f x b. has_task unit _ (c.in_ok-component_of.ensures.written unit e) f x b
+pub returns-clause-component : goal.returns-clause-component
+returns-clause-component c = λ unit e uses. is_component unit _ (c.in_ok-component_of.ensures.written unit e) uses
+
+pub returns-clause-writes : goal.returns-clause-writes
+returns-clause-writes c = λ unit e uses. writes_cells unit _ (c.in_ok-component_of.ensures.written unit e) uses

@@ -1,5 +1,5 @@
 -- The cells so far are those of the variables so far, and the map has their places.
-use Rattle.std.proofs.Common.{◌≡◌, ◌++◌, take}
+use Rattle.std.proofs.Common.{◌≡◌, take}
 use Rattle.std.specs.Prelude.{flat_map}
 use Rattle.task_config.specs.Plan.{decl_cells}
 use Rattle.task_config.specs.Written.{place_in, place_among}

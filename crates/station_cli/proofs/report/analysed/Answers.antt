@@ -1,0 +1,29 @@
+use Rattle.std.proofs.Common.{subst, List}
+use Rattle.std.specs.Prelude.{ℤ}
+use Rattle.interval_domain.specs.Grid.{IsGrid}
+use Rattle.station_cli.proofs.Made.{is_report}
+use Rattle.station_cli.proofs.report.analysed.Goals as goal
+
+pub returns-clause-sound : goal.returns-clause-sound
+returns-clause-sound g c = λ text. c.report_of.ensures.sound c.args.name.now text
+
+pub returns-clause-report : goal.returns-clause-report
+returns-clause-report g c = λ text is.
+    is_report c.args.name.now text c.args.tree.now c.in_ok-component.component c.in_ok-grid.grid c.in_ok-solution.solution c.in_ok-alarms.alarms c.in_ok-ranges.ranges c.report_of.result is
+    (record {
+      planned = c.in_ok-component.ensures.component is.unit is.units is.uses;
+      writes = c.in_ok-component.ensures.writes is.unit is.units is.uses;
+      grid_is = subst (λ (literals : List ℤ). IsGrid literals c.in_ok-grid.grid) c.as_slice.ensures c.in_ok-grid.ensures;
+      solution = c.in_ok-solution.ensures.solution;
+      alarms = c.in_ok-solution.ensures.alarms;
+      ordered = c.in_ok-solution.ensures.ordered;
+      ranges = c.in_ok-solution.ensures.ranges;
+    })
+    (rw c.deref.ensures.value at (c.in_ok-alarms.ensures text is)) c.in_ok-ranges.ensures
+    (record {
+      alarms = c.report_of.ensures.alarms;
+      ranges = c.report_of.ensures.ranges;
+      sound = c.report_of.ensures.sound;
+      no_refusal = c.report_of.ensures.no_refusal;
+      waived = c.report_of.ensures.waived;
+    })
