@@ -1,4 +1,4 @@
--- That a run is complete: Complete. That a report on a tree is the defined one: Lists, Statements, Holders, Entries, RangeLines, Planned, Alarms, Made.
+-- That a run is complete: Complete. That a report on a tree is the defined one: Lists, Statements, Holders, Entries, RangeLines, Planned, Alarms, Made. What stands under it of the tree: Parsed.
 pub mod Complete
 pub mod Lists
 pub mod Statements
@@ -8,3 +8,6 @@ pub mod RangeLines
 pub mod Planned
 pub mod Alarms
 pub mod Made
+pub mod Parsed
+pub mod Runs
+pub mod Says

@@ -31,7 +31,7 @@ use Rattle.cycle_analysis.proofs.Sites.{told_at, told_apart}
 use Rattle.cycle_analysis.proofs.Told.{pass_has_ranges}
 use Rattle.cycle_analysis.proofs.Rising.{same_node}
 use Rattle.station_cli.specs.Report.{IsReportOf}
-use Rattle.station_cli.specs.Reports.{IsSound}
+use Rattle.station_cli.specs.Reports.{IsCounted}
 use Rattle.station_cli.specs.Parsing.{IsAnalysable}
 use Rattle.station_cli.specs.Lines.{AreEntriesOf, IsInBody, lines_of}
 use Rattle.station_cli.proofs.Planned.{body_operators}
@@ -74,7 +74,7 @@ pub record IsAnswered (unit : SourceUnit) (component : Component) (grid : List �
 pub record IsMadeOf (entries : List (Entry Alarm)) (lines : List RangeLine) (report : Report) : Type 0 where
   pub alarms : report.alarms ≡ entries
   pub ranges : report.ranges ≡ lines
-  pub sound : (name text : List ℕ) → IsSound name text report
+  pub counted : IsCounted report
   pub no_refusal : (refusal : Refusal) → report.verdict ≡ verdict.Refused refusal → ⊥
   pub waived : report.waived_count ≡ 0
 
@@ -108,6 +108,6 @@ is_report name text tree component grid s entries lines report is a made lines_a
       alarms = rw r.alarms (are_alarms log ranges apart name text tree is.unit s.alarms.items entries sorted (made in_body) a.ordered files);
       ranges = rw r.ranges (are_ranges component task s lines a.planned.tasks a.planned.shared (a.ranges task first) lines_are);
       no_refusal = r.no_refusal;
-      counted = (r.sound name text).counted;
+      counted = r.counted;
       waived = r.waived;
     }

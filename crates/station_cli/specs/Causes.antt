@@ -2,10 +2,12 @@
 -- takes; the code has no part for them.
 use Rattle.std.specs.Prelude.{◌≡◌, ◌⊎◌, ◌<◌, ℕ, List, Option, Some, length, true}
 use Rattle.std.specs.Io.KnownBytes.{Appends}
-use Rattle.station_ports.specs.Calls.{IsTooLong, Rose}
+use Rattle.station_ports.specs.Calls.{IsContent, IsTooLong, Rose}
+use Rattle.finding_spans.specs.declared.report.Report.{Report}
 use Rattle.station_ports.specs.Views.{PortView}
 use Rattle.station_cli.specs.Words.{check, command_of}
-use Rattle.station_cli.specs.Run.{World, Course, Happens, max_file, status_of, text_of, is_settled}
+use Rattle.station_cli.specs.Report.{IsReport}
+use Rattle.station_cli.specs.Run.{World, Course, Happens, max_file, verdict_status, status_of, text_of, is_settled}
 use Rattle.station_cli.specs.declared.status.Status.{Status}
 use Rattle.station_cli.specs.declared.status.Status.TheVariants.{NoMemory, WriteFault, TooLong}
 
@@ -25,6 +27,22 @@ pub record IsToldAbove (words : List (List ℕ)) (old : World) : Type 0 where
   pub there : contents name ≡ Some content
   pub above : max_file < length content
 
+-- the words name a file whose text is reported with a verdict of this status
+pub record IsReportedAs (words : List (List ℕ)) (old : World) (status : Status) : Type 0 where
+  pub name : List ℕ
+  pub text : List ℕ
+  pub made : Report
+  pub asked : command_of words ≡ Some (check name)
+  pub content : IsContent old.files name max_file text
+  pub report : IsReport name text made
+  pub status_is : verdict_status made.verdict ≡ status
+
+-- the same, where the files tell the text
+pub record IsToldReported (words : List (List ℕ)) (old : World) (status : Status) : Type 0 where
+  pub reported : IsReportedAs words old status
+  pub contents : List ℕ → Option (List ℕ)
+  pub told : old.files.contents ≡ Some contents
+
 -- This status is answered, or the put of its line failed, or there was no memory.
 abbrev pub Ends : Status → PortView → PortView → Status → Type 0
 Ends status old_out new_out ended =
@@ -34,6 +52,11 @@ Ends status old_out new_out ended =
 abbrev pub EndsTooLong : World → World → PortView → PortView → Status → Type 0
 EndsTooLong old new old_out new_out ended =
     Ends TooLong old_out new_out ended ⊎ Rose old.files.faults new.files.faults
+
+-- How a file within the limit is answered: with this status, unless reading it failed.
+abbrev pub EndsReported : World → World → PortView → PortView → Status → Status → Type 0
+EndsReported old new old_out new_out status ended =
+    Ends status old_out new_out ended ⊎ Rose old.files.faults new.files.faults
 
 -- no count rose in the call
 pub record IsCalm (old new : World) (old_out new_out : PortView) : Type 0 where

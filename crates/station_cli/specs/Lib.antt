@@ -4,5 +4,6 @@ pub mod Report
 pub mod Parsing
 pub mod Lines
 pub mod Run
+pub mod Headline
 pub mod Causes
 pub mod Codes

@@ -1,7 +1,5 @@
 -- What the verdict and the counts of a report say of its lines. Source: this profile. The code counts the lines that it has made.
-use Rattle.std.specs.Prelude.{◌≡◌, ◌<◌, ◌≤◌, ◌+◌, ℕ, List, length}
-use Rattle.finding_spans.specs.Places.{IsPosition}
-use Rattle.finding_spans.specs.declared.report.Refusal.{Refusal}
+use Rattle.std.specs.Prelude.{◌≡◌, ◌<◌, ◌+◌, ℕ, length}
 use Rattle.finding_spans.specs.declared.report.Verdict.{Verdict}
 use Rattle.finding_spans.specs.declared.report.Verdict.TheVariants.{Free, Alarms, Refused}
 use Rattle.finding_spans.specs.declared.report.Report.{Report}
@@ -12,24 +10,7 @@ Fits Free alarms ranges = alarms ≡ 0
 Fits (Alarms told) alarms ranges = (told.count ≡ alarms) × (0 < alarms)
 Fits (Refused refusal) alarms ranges = (alarms ≡ 0) × (ranges ≡ 0)
 
--- A refusal names the file, and a place in its text.
-pub record IsPlaced (name text : List ℕ) (refusal : Refusal) : Type 0 where
-  pub at : ℕ
-  pub within : at ≤ length text
-  pub position : IsPosition text at refusal.line refusal.column
-  pub file : refusal.file ≡ name
-
-abbrev pub IsPlacedIn : List ℕ → List ℕ → Verdict → Type 0
-IsPlacedIn name text Free = Unit {0}
-IsPlacedIn name text (Alarms told) = Unit {0}
-IsPlacedIn name text (Refused refusal) = IsPlaced name text refusal
-
 -- The verdict fits the lines, and each alarm is open or waived.
 pub record IsCounted (report : Report) : Type 0 where
   pub verdict : Fits report.verdict (length report.alarms) (length report.ranges)
   pub counted : report.open_count + report.waived_count ≡ length report.alarms
-
--- What holds of every report on a file of that name and text, so far as it is proved.
-pub record IsSound (name text : List ℕ) (report : Report) : Type 0 where
-  pub counted : IsCounted report
-  pub placed : IsPlacedIn name text report.verdict

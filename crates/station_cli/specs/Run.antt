@@ -11,7 +11,7 @@ use Rattle.finding_spans.specs.declared.report.Verdict.TheVariants as verdict
 use Rattle.finding_spans.specs.declared.report.Report.{Report}
 use Rattle.report_text.specs.Text as report
 use Rattle.station_cli.specs.Words.{Command, check, command_of}
-use Rattle.station_cli.specs.Reports.{IsSound}
+use Rattle.station_cli.specs.Report.{IsReport}
 use Rattle.station_cli.specs.declared.status.Status.{Status}
 use Rattle.station_cli.specs.declared.status.Status.TheVariants.{Clean, Open, Refused, Usage, ReadFault, WriteFault, NoMemory, TooLong}
 
@@ -26,7 +26,7 @@ max_file = 1048576
 pub data Course : Type 0 where
   -- the words are no defined command line
   misused : Course
-  -- a file was read, and this report was made of it, whose verdict and counts fit its lines and whose refusal names a place in the text
+  -- a file was read, and this is the report on it
   checked : (name text : List ℕ) → (made : Report) → Course
   -- a file is above the limit
   too_long : (name : List ℕ) → Course
@@ -38,7 +38,7 @@ pub data Course : Type 0 where
 -- the cause of each course, of what the words ask for
 abbrev pub Happens : Option Command → World → World → Course → Type 0
 Happens asked old new misused = asked ≡ None
-Happens asked old new (checked name text made) = (asked ≡ Some (check name)) × IsContent old.files name max_file text × IsSound name text made
+Happens asked old new (checked name text made) = (asked ≡ Some (check name)) × IsContent old.files name max_file text × IsReport name text made
 Happens asked old new (too_long name) = (asked ≡ Some (check name)) × IsTooLong old.files name max_file
 Happens asked old new (unread name) = (asked ≡ Some (check name)) × Rose old.files.faults new.files.faults
 Happens asked old new out_of_memory = ⊤

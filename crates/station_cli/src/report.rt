@@ -1,13 +1,17 @@
 // The report on a file: its text is cut into tokens, parsed, planned and analysed.
 
-ghost use Rattle.std.specs.Prelude.{◌≡◌, ℕ, List, ◌++◌, IfOk, OnOk, length, flat_map};
+ghost use Rattle.std.specs.Prelude.{◌≡◌, ℕ, List, ◌++◌, ◌≤◌, IfOk, OnOk, length, flat_map};
 ghost use Rattle.std.specs.List.{AllByRecursion, Contains};
 ghost use Rattle.st_tree.specs.Nodes.{IsNumbered};
 ghost use Rattle.st_tree.specs.declared.tree.Unit.{Unit as SourceUnit};
 ghost use Rattle.finding_spans.specs.declared.report.Refusal.{Refusal as Reason};
-ghost use Rattle.station_cli.specs.Reports.{IsSound};
-ghost use Rattle.station_cli.specs.Report.{IsReportOf, IsUnder, subject};
-ghost use Rattle.station_cli.specs.Parsing.{IsAnalysable, IsOneUnit};
+ghost use Rattle.token_grammar.specs.declared.token.Token.{Token as Lexeme};
+ghost use Rattle.st_lexer.specs.Cut.{IsCut};
+ghost use Rattle.st_expr.specs.FirstForm.{IsRefused};
+ghost use Rattle.st_tree.specs.declared.fault.FaultCode.TheVariants as faults;
+ghost use Rattle.station_cli.specs.Reports.{IsCounted};
+ghost use Rattle.station_cli.specs.Report.{IsReport, IsRefusal, IsReportOf, IsUnder, subject};
+ghost use Rattle.station_cli.specs.Parsing.{IsAnalysable, IsParsedText};
 ghost use Rattle.station_cli.specs.Lines.{AreEntriesOf, IsAlarmOf, IsEntryOf, IsInBody, lines_of, range_line};
 
 use cycle_analysis::{Solution, solve};
@@ -17,7 +21,7 @@ use finding_spans::{
 use interval_domain::grid::Grid;
 use interval_domain::interval::Interval;
 use sqlite_items::Items;
-use st_expr::{ParseFault, first_form};
+use st_expr::{ParseFault, first_form, tree_laws};
 use st_lexer::{LexFault, tokens};
 use st_tree::{CellInfo, Component, FaultCode, Hit, NodeNo, SourceTree, Stmt};
 use station_ports::outside::NoMemory;
@@ -34,7 +38,7 @@ pub(crate) fn report_on<L: Ledger>(
     text: &FileText,
     steps: &mut Steps<L>,
 ) -> Result<Report, NoMemory>
-    ensures { IfOk result (λ report. IsSound name.now text.now report) }
+    ensures { IfOk result (λ report. IsReport name.now text.now report) }
 {
     match tree_of(alloc, text, steps)? {
         Parsed::Tree(tree) => analysed(alloc, name, &tree, steps),
@@ -62,8 +66,9 @@ fn tree_of<L: Ledger>(
     text: &FileText,
     steps: &mut Steps<L>,
 ) -> Result<Parsed, NoMemory>
-    ensures { IfOk result IsOneUnit }
+    ensures { IfOk result (IsParsedText text.now) }
 {
+    tree_laws();
     let tokens = match tokens(alloc, text.bytes()) {
         Ok(tokens) => tokens,
         Err(LexFault::NoMemory) => return Err(NoMemory),
@@ -77,7 +82,8 @@ fn tree_of<L: Ledger>(
 
 /// The report on a file that is refused for a fault at a byte.
 fn refused(alloc: Global, name: &str, text: &FileText, fault: Fault) -> Result<Report, AllocError>
-    ensures { IfOk result (λ report. IsSound name.now text.now report) }
+    ensures { (tokens : List Lexeme) → IsCut text.now tokens → fault.code ≡ faults.NotBuilt → fault.at ≤ length text.now → IsRefused text.now tokens fault.at →
+        IfOk result (λ report. IsRefusal name.now text.now report) }
 {
     let bytes = text.bytes();
     let position = line_of(bytes, fault.at.min(bytes.len()));
@@ -103,8 +109,7 @@ fn analysed<L: Ledger>(
     steps: &mut Steps<L>,
 ) -> Result<Report, NoMemory>
     requires { length tree.now.units ≡ 1 }
-    ensures sound { IfOk result (λ report. (text : List ℕ) → IsSound name.now text report) }
-    ensures report { IfOk result (λ report. (text : List ℕ) → IsAnalysable text tree.now → IsReportOf name.now text tree.now report) }
+    ensures { IfOk result (λ report. (text : List ℕ) → IsAnalysable text tree.now → IsReportOf name.now text tree.now report) }
 {
     let component = plan(alloc, tree)?;
     let grid = Grid::of(alloc, component.literals.as_slice())?;
@@ -118,7 +123,7 @@ fn analysed<L: Ledger>(
 fn report_of(alarms: Items<Entry<Alarm>>, ranges: Items<RangeLine>) -> Report
     ensures alarms { result.alarms ≡ alarms }
     ensures ranges { result.ranges ≡ ranges }
-    ensures sound { (name : List ℕ) (text : List ℕ) → IsSound name text result }
+    ensures counted { IsCounted result }
     ensures no_refusal { (refusal : Reason) → result.verdict ≡ Verdict.Refused refusal → ⊥ }
     ensures waived { result.waived_count ≡ 0 }
 {

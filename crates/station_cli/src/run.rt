@@ -4,13 +4,17 @@ ghost use Rattle.station_ports.specs.Calls.{Rose};
 ghost use Rattle.report_text.specs.Text as report_text;
 ghost use Rattle.station_cli.specs.Words.{check, command_of};
 ghost use Rattle.station_cli.specs.Run.{IsRun, IsWork, IsWritten, verdict_status};
-ghost use Rattle.station_cli.specs.Causes.{Completes, IsAboveLimit, IsToldAbove, Ends, EndsTooLong};
+ghost use Rattle.station_cli.specs.Headline.{FreeIsSafe, AlarmsCover};
+ghost use Rattle.station_cli.specs.Causes.{Completes, IsReportedAs, IsAboveLimit, IsToldAbove, Ends, EndsTooLong};
 
 use crate::report::report_on;
 use crate::status::Status;
 use crate::words::{CommandLine, read_words};
+use cycle_analysis::headline;
 use finding_spans::Verdict;
 use report_text::text;
+use st_expr::tree_laws;
+use st_lexer::one_cut;
 use station_ports::outside::{FileRefusal, Files, NoMemory, Port, PutRefusal, Sink};
 use station_ports::steps::Steps;
 use station_ports::sure::{SureFiles, SureSink};
@@ -41,7 +45,16 @@ pub fn run<F: Files, S: Sink, L: Ledger>(
     ensures complete { Completes (map string_bytes words.now) (record { files = F.view files.old }) (record { files = F.view files.new })
         (S.view out.old) (S.view out.new) result }
 
+    // Wherever FREE was put, no run of the program that the file's bytes spell faults, and each variable stays in its printed range;
+    // wherever ALARMS was put, each fault of a run is at an alarm, with its value in the alarm's range. This holds also of a report that
+    // was cut short, and whatever else failed in the call.
+    ensures free { FreeIsSafe (map string_bytes words.now) (record { files = F.view files.old }) (S.view out.old) (S.view out.new) }
+    ensures alarms { AlarmsCover (map string_bytes words.now) (record { files = F.view files.old }) (S.view out.old) (S.view out.new) }
+
     // Each status by its cause.
+    ensures clean { result ≡ Status.Clean → IsReportedAs (map string_bytes words.now) (record { files = F.view files.old }) Status.Clean }
+    ensures open { result ≡ Status.Open → IsReportedAs (map string_bytes words.now) (record { files = F.view files.old }) Status.Open }
+    ensures refused { result ≡ Status.Refused → IsReportedAs (map string_bytes words.now) (record { files = F.view files.old }) Status.Refused }
     ensures usage { result ≡ Status.Usage → command_of (map string_bytes words.now) ≡ None }
     ensures misused { command_of (map string_bytes words.now) ≡ None → Ends Status.Usage (S.view out.old) (S.view out.new) result }
     ensures too_long { result ≡ Status.TooLong → IsAboveLimit (map string_bytes words.now) (record { files = F.view files.old }) }
@@ -50,6 +63,9 @@ pub fn run<F: Files, S: Sink, L: Ledger>(
     ensures read_fault { result ≡ Status.ReadFault → Rose (F.view files.old).faults (F.view files.new).faults }
     ensures write_fault { result ≡ Status.WriteFault → Rose (S.view out.old).faults (S.view out.new).faults }
 {
+    one_cut();
+    tree_laws();
+    headline();
     match work(alloc, words, files, steps) {
         Ok(reply) => write_line(out, reply.status, &reply.text),
         Err(NoMemory) => write_no_memory(out),

@@ -4,11 +4,8 @@ use Rattle.interval_domain.specs.Grid.{IsGrid}
 use Rattle.station_cli.proofs.Made.{is_report}
 use Rattle.station_cli.proofs.report.analysed.Goals as goal
 
-pub returns-clause-sound : goal.returns-clause-sound
-returns-clause-sound g c = λ text. c.report_of.ensures.sound c.args.name.now text
-
-pub returns-clause-report : goal.returns-clause-report
-returns-clause-report g c = λ text is.
+pub returns : goal.returns
+returns g c = λ text is.
     is_report c.args.name.now text c.args.tree.now c.in_ok-component.component c.in_ok-grid.grid c.in_ok-solution.solution c.in_ok-alarms.alarms c.in_ok-ranges.ranges c.report_of.result is
     (record {
       planned = c.in_ok-component.ensures.component is.unit is.units is.uses;
@@ -23,7 +20,7 @@ returns-clause-report g c = λ text is.
     (record {
       alarms = c.report_of.ensures.alarms;
       ranges = c.report_of.ensures.ranges;
-      sound = c.report_of.ensures.sound;
+      counted = c.report_of.ensures.counted;
       no_refusal = c.report_of.ensures.no_refusal;
       waived = c.report_of.ensures.waived;
     })

@@ -1,14 +1,23 @@
-use Rattle.std.proofs.Common.{ℕ, List, Ok, Err, IfOk}
+use Rattle.std.proofs.Common.{◌≡◌, ℕ, List, Ok, Err, IfOk, length, inl, inr, ap, subst, rules, arith}
 use Rattle.std.specs.Prelude.{Result}
+use Rattle.std.proofs.lemmas.Grind.{common_steps}
 use Rattle.station_ports.specs.declared.outside.NoMemory.{NoMemory}
+use Rattle.st_tree.specs.declared.tree.SourceTree.{SourceTree}
 use Rattle.finding_spans.specs.declared.report.Report.{Report}
-use Rattle.station_cli.specs.Reports.{IsSound}
+use Rattle.station_cli.specs.declared.report.Parsed.TheVariants.{Tree, Fault}
+use Rattle.station_cli.specs.Report.{IsReport, IsReportOf}
+use Rattle.station_cli.specs.Parsing.{IsAnalysable, IsParsedText}
 use Rattle.station_cli.proofs.report.report_on.Goals as goal
 
--- what holds for every text holds for this one
-at_text : (name text : List ℕ) (r : Result Report NoMemory) → IfOk r (λ report. (t : List ℕ) → IsSound name t report) → IfOk r (λ report. IsSound name text report)
-at_text name text (Ok report) h = h text
-at_text name text (Err e) h = tt
+-- the report on a tree of the text is the report on the text
+on_tree : (name text : List ℕ) (tree : SourceTree) (r : Result Report NoMemory) → IsParsedText text (Tree tree) → IfOk r (λ report. (t : List ℕ) → IsAnalysable t tree → IsReportOf name t tree report) → IfOk r (λ report. IsReport name text report)
+on_tree name text tree (Ok report) h k = inl (record { tokens = h.0; tree = tree; cut = h.1; spelled = h.2.0; report = k text h.2.1 })
+on_tree name text tree (Err e) h k = tt
+
+pub analysed-requires : goal.analysed-requires
+analysed-requires g c =
+    let h = subst (IsParsedText c.args.text.now) c.in-Tree.is c.in_ok-tree.ensures in
+    ap length h.2.1.units
 
 pub returns-in-Tree : goal.returns-in-Tree
-returns-in-Tree g c = at_text c.args.name.now c.args.text.now c.analysed.result c.analysed.ensures.sound
+returns-in-Tree g c = on_tree c.args.name.now c.args.text.now c.in-Tree.tree c.analysed.result (subst (IsParsedText c.args.text.now) c.in-Tree.is c.in_ok-tree.ensures) c.analysed.ensures

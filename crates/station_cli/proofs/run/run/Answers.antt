@@ -1,6 +1,7 @@
 -- The causes and the completeness follow from what the work and the writing ensure.
 use Rattle.station_cli.specs.Run.{out_of_memory}
 use Rattle.station_cli.proofs.Complete.{completes, misused_ends, above_ends}
+use Rattle.station_cli.proofs.Says.{free_says, alarms_say}
 use Rattle.station_cli.proofs.run.run.Goals as goal
 use Rattle.std.proofs.Common.{refl, map}
 use Rattle.std.specs.Prelude.{string_bytes}
@@ -29,5 +30,23 @@ returns-in-Err-clause-misused g c =
 pub returns-in-Err-clause-above : goal.returns-in-Err-clause-above
 returns-in-Err-clause-above g c =
     above_ends _ {new = record { files = g.F.Files.view c.work.new.files }}
+    (record { course = out_of_memory; cause = tt; status_is = refl; text_is = refl })
+    c.write_no_memory.ensures
+
+pub returns-in-Ok-clause-free : goal.returns-in-Ok-clause-free
+returns-in-Ok-clause-free g c = free_says c.headline.ensures.covered c.one_cut.ensures c.tree_laws.ensures.one (map string_bytes c.args.words.now) c.in-Ok.ensures.work (rw c.deref.ensures.value at c.write_line.ensures)
+
+pub returns-in-Ok-clause-alarms : goal.returns-in-Ok-clause-alarms
+returns-in-Ok-clause-alarms g c = alarms_say c.headline.ensures.covered c.one_cut.ensures c.tree_laws.ensures.one (map string_bytes c.args.words.now) c.in-Ok.ensures.work (rw c.deref.ensures.value at c.write_line.ensures)
+
+pub returns-in-Err-clause-free : goal.returns-in-Err-clause-free
+returns-in-Err-clause-free g c =
+    free_says c.headline.ensures.covered c.one_cut.ensures c.tree_laws.ensures.one (map string_bytes c.args.words.now) {old = record { files = g.F.Files.view c.args.files.now }} {new = record { files = g.F.Files.view c.work.new.files }}
+    (record { course = out_of_memory; cause = tt; status_is = refl; text_is = refl })
+    c.write_no_memory.ensures
+
+pub returns-in-Err-clause-alarms : goal.returns-in-Err-clause-alarms
+returns-in-Err-clause-alarms g c =
+    alarms_say c.headline.ensures.covered c.one_cut.ensures c.tree_laws.ensures.one (map string_bytes c.args.words.now) {old = record { files = g.F.Files.view c.args.files.now }} {new = record { files = g.F.Files.view c.work.new.files }}
     (record { course = out_of_memory; cause = tt; status_is = refl; text_is = refl })
     c.write_no_memory.ensures
