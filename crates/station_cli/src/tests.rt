@@ -121,7 +121,7 @@ struct Row {
 }
 
 /// Texts of the first form.
-const ANALYSED: [Row; 9] = [
+const ANALYSED: [Row; 13] = [
     Row {
         text: "PROGRAM P\nVAR a, b : INT; END_VAR\na := 5; b := a - 7;\nEND_PROGRAM\n",
         status: Status::Clean,
@@ -172,10 +172,34 @@ const ANALYSED: [Row; 9] = [
         status: Status::Clean,
         output: "VERDICT FREE\nRANGE MAIN.A 0..40\nRANGE MAIN.B 0..39\nEND open 0 waived 0\n",
     },
+    // The bounds of the type, the lower one by a sum.
+    Row {
+        text: "PROGRAM P VAR a, b : INT; END_VAR a := 32767; b := -32767 - 1; END_PROGRAM",
+        status: Status::Clean,
+        output: "VERDICT FREE\nRANGE MAIN.A 0..32767\nRANGE MAIN.B -32768..0\nEND open 0 waived 0\n",
+    },
+    // Names and reserved words are the same in any case; the program's name is none of the variables'.
+    Row {
+        text: "Program Abc Var aBc : Int; End_Var ABC := abc; End_Program",
+        status: Status::Clean,
+        output: "VERDICT FREE\nRANGE MAIN.ABC 0..0\nEND open 0 waived 0\n",
+    },
+    // Differences group to the left: 1 - 2 - 3 is -4, and not 2.
+    Row {
+        text: "PROGRAM P VAR a : INT; END_VAR a := 1 - 2 - 3; END_PROGRAM",
+        status: Status::Clean,
+        output: "VERDICT FREE\nRANGE MAIN.A -128..0\nEND open 0 waived 0\n",
+    },
+    // Zeros before a number, and a variable that counts down.
+    Row {
+        text: "PROGRAM P VAR a, n : INT; END_VAR a := 00000000000000000000000000000000000000000000007; n := n - 1; END_PROGRAM",
+        status: Status::Open,
+        output: "VERDICT ALARMS 1\nALARM A4 Overflow P N a.st:1:89 range -32769..-1\nRANGE MAIN.A 0..7\nRANGE MAIN.N -32768..0\nEND open 1 waived 0\n",
+    },
 ];
 
 /// Texts that stop being of the first form, and where.
-const REFUSED: [(&str, &str); 22] = [
+const REFUSED: [(&str, &str); 35] = [
     ("", "1:1"),
     (
         "PROGRAM P\nVAR n : INT; END_VAR\nIF n < 100 THEN n := n + 1; END_IF;\nEND_PROGRAM\n",
@@ -234,6 +258,28 @@ const REFUSED: [(&str, &str); 22] = [
         "PROGRAM P VAR a : INT; END_VAR\n\n  \u{e9} END_PROGRAM",
         "3:3",
     ),
+    ("PROGRAM _ END_PROGRAM", "1:9"),
+    ("PROGRAM a_ END_PROGRAM", "1:9"),
+    ("PROGRAM P; END_PROGRAM", "1:10"),
+    ("PROGRAM P a := 1; VAR a : INT; END_VAR END_PROGRAM", "1:11"),
+    ("PROGRAM P VAR a, : INT; END_VAR END_PROGRAM", "1:18"),
+    ("PROGRAM P VAR : INT; END_VAR END_PROGRAM", "1:15"),
+    ("PROGRAM P VAR a : INT; END_VAR a = 1; END_PROGRAM", "1:34"),
+    (
+        "PROGRAM P VAR a : INT; END_VAR a := (1); END_PROGRAM",
+        "1:37",
+    ),
+    (
+        "PROGRAM P VAR a : INT; END_VAR a := -a; END_PROGRAM",
+        "1:38",
+    ),
+    (
+        "PROGRAM P VAR a : INT; END_VAR a := 16#F; END_PROGRAM",
+        "1:37",
+    ),
+    ("PROGRAM P VAR a : INT; END_VAR a := 1;", "1:39"),
+    ("(* x *) PROGRAM P END_PROGRAM", "1:1"),
+    ("PROGRAM P END_PROGRAM;", "1:22"),
 ];
 
 #[test]
