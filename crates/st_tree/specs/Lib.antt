@@ -2,6 +2,7 @@ pub mod Faults
 pub mod Feeds
 pub mod Code
 pub mod Writes
+pub mod Steady
 pub mod Nodes
 pub mod Bare
 pub mod Names

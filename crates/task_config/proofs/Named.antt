@@ -13,7 +13,7 @@ use Rattle.st_tree.specs.declared.tree.Unit.{Unit as SourceUnit}
 use Rattle.st_tree.specs.declared.code.CellInfo.{CellInfo}
 use Rattle.std.proofs.lemmas.Option.{none-some}
 use Rattle.std.proofs.lemmas.Grind.{common_steps}
-use Rattle.st_tree.specs.Names.{has, unit_names}
+use Rattle.st_tree.specs.Names.{unit_names}
 use Rattle.task_config.specs.Plan.{cell_of, decl_cells, unit_cells}
 use Rattle.task_config.specs.Written.{place_among}
 
@@ -27,7 +27,7 @@ place_there p xs h =
     let l = len_there p xs h in
     (position_or_len p xs, grind (arith, common_steps))
 
-place_within : {X : Type 0} (p : X → Bool) (xs : List X) (k : ℕ) → position p xs ≡ Some k → k < length xs
+pub place_within : {X : Type 0} (p : X → Bool) (xs : List X) (k : ℕ) → position p xs ≡ Some k → k < length xs
 place_within p [] k e = absurd (none-some k e)
 place_within p (x ∷ xs) k e = (position-Some p (x ∷ xs) k x e).0
 
@@ -52,16 +52,18 @@ decl_same : (q : List ℕ) (elem : Elem) (ids : List Identifier) → map (λ (ce
 decl_same q elem [] = refl
 decl_same q elem (x ∷ ids) = ap (λ (b : List Bool). bytes_eq q x.name ∷ b) (decl_same q elem ids)
 
+-- a test of a cell's name passes where that of the name does
+marks : (unit : SourceUnit) (q : List ℕ) → map (λ (cell : CellInfo). bytes_eq (codes "MAIN." ++ q) cell.path) (unit_cells unit) ≡ map (bytes_eq q) (unit_names unit)
+marks unit q =
+    let p : CellInfo → Bool = λ cell. bytes_eq (codes "MAIN." ++ q) cell.path in
+    flat_same p (bytes_eq q) (λ (section : Section). flat_map decl_cells section.decls) (λ (section : Section). flat_map (λ (decl : Decl). map (λ (identifier : Identifier). identifier.name) decl.names) section.decls)
+    (λ section. flat_same p (bytes_eq q) decl_cells (λ (decl : Decl). map (λ (identifier : Identifier). identifier.name) decl.names) (λ decl. decl_same q decl.spec.elem decl.names) section.decls) unit.sections
+
 pub place_names : (unit : SourceUnit) (q : List ℕ) → place_among (unit_cells unit) q ≡ position (bytes_eq q) (unit_names unit)
 place_names unit q =
-    let p : CellInfo → Bool = λ cell. bytes_eq (codes "MAIN." ++ q) cell.path in
-    let e : map p (unit_cells unit) ≡ map (bytes_eq q) (unit_names unit) =
-    flat_same p (bytes_eq q) (λ (section : Section). flat_map decl_cells section.decls) (λ (section : Section). flat_map (λ (decl : Decl). map (λ (identifier : Identifier). identifier.name) decl.names) section.decls)
-    (λ section. flat_same p (bytes_eq q) decl_cells (λ (decl : Decl). map (λ (identifier : Identifier). identifier.name) decl.names) (λ decl. decl_same q decl.spec.elem decl.names) section.decls) unit.sections in
-    sym (position_map p (unit_cells unit)) ∙ ap (position (λ b. b)) e ∙ position_map (bytes_eq q) (unit_names unit)
+    sym (position_map (λ cell. bytes_eq (codes "MAIN." ++ q) cell.path) (unit_cells unit)) ∙ ap (position (λ b. b)) (marks unit q) ∙ position_map (bytes_eq q) (unit_names unit)
 
--- a name of the unit has a place among the cells
-pub cell_there : (unit : SourceUnit) (q : List ℕ) → has (unit_names unit) q ≡ true → (k : ℕ) × (place_among (unit_cells unit) q ≡ Some k) × (k < length (unit_cells unit))
-cell_there unit q u =
-    let k = place_there (bytes_eq q) (unit_names unit) u in
-    (k.0, place_names unit q ∙ k.1, place_within (λ cell. bytes_eq (codes "MAIN." ++ q) cell.path) (unit_cells unit) k.0 (place_names unit q ∙ k.1))
+-- there is a cell for each name
+pub cells_count : (unit : SourceUnit) → length (unit_names unit) ≡ length (unit_cells unit)
+cells_count unit =
+    sym (map_len (bytes_eq []) (unit_names unit)) ∙ sym (ap (length {A = Bool}) (marks unit [])) ∙ map_len (λ (cell : CellInfo). bytes_eq (codes "MAIN." ++ []) cell.path) (unit_cells unit)

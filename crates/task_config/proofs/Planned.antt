@@ -1,4 +1,4 @@
--- What is planned is the component of the unit, and it writes its cells alone.
+-- What is planned is the component of the unit, and its code is steady.
 use Rattle.std.proofs.Common.{◌≡◌, length, ℕ, zero, suc, [], ◌∷◌, Some, sym, ap, subst, ◌∙◌}
 use Rattle.std.specs.Prelude.{slice_get}
 use Rattle.st_tree.specs.declared.tree.Unit.{Unit as SourceUnit}
@@ -6,13 +6,15 @@ use Rattle.st_tree.specs.declared.code.Component.{Component}
 use Rattle.std.proofs.lemmas.Option.{same_Some, none-some}
 use Rattle.st_tree.specs.Code.{reading}
 use Rattle.st_tree.specs.Names.{UsesDeclared, unit_names}
-use Rattle.st_tree.specs.Writes.{HasWritten, WritesCells}
+use Rattle.st_tree.specs.Writes.{WritesCells}
+use Rattle.st_tree.specs.Steady.{IsSteady, IsSteadyComponent}
 use Rattle.st_tree.specs.declared.code.TaskCode.{TaskCode}
+use Rattle.st_tree.specs.declared.code.CellInfo.{CellInfo}
 use Rattle.task_config.specs.Plan.{unit_cells, IsComponent}
 use Rattle.task_config.specs.Written.{place_among, IsWritten}
-use Rattle.task_config.proofs.Named.{place_names, cell_there}
+use Rattle.task_config.proofs.Named.{place_names, cells_count}
 use Rattle.task_config.proofs.Exact.{body_is}
-use Rattle.task_config.proofs.Cells.{body_writes}
+use Rattle.task_config.proofs.Steady.{steady_writes, body_steady}
 use Rattle.task_config.proofs.Literals.{in_body, from_body}
 
 only : {X : Type 0} (x y : X) (k : ℕ) → slice_get (x ∷ []) k ≡ Some y → x ≡ y
@@ -28,8 +30,14 @@ is_component unit component w u = record {
   literals = λ n. (λ c. in_body (unit_names unit) n unit.body u (rw w.literals at c), λ c. rw w.literals (from_body (unit_names unit) n unit.body u c));
 }
 
-pub writes_cells : (unit : SourceUnit) (component : Component) → IsWritten unit component → UsesDeclared unit → WritesCells component
-writes_cells unit component w u me task e =
-    let t = only w.task task me (rw w.tasks at e) in
-    let b = body_writes (unit_names unit) (place_among (unit_cells unit)) (length (unit_cells unit)) (length component.shared) (cell_there unit) unit.body u in
-    subst (λ (x : TaskCode). HasWritten (length x.cells) (length component.shared) (reading x.code)) t (rw (w.is_task.cells, w.is_task.code) b)
+-- the code that the definitions give is steady
+pub component_steady : (unit : SourceUnit) (component : Component) → IsComponent unit component → IsSteadyComponent component
+component_steady unit component c me task e =
+    let same = only c.task task me (rw c.tasks at e) in
+    let code = body_steady (unit_names unit) (length component.shared) unit.body (reading c.task.code) (sym c.is_task.code) in
+    let count : length (unit_names unit) ≡ length c.task.cells = cells_count unit ∙ ap (length {A = CellInfo}) (sym c.is_task.cells) in
+    subst (λ (x : TaskCode). IsSteady (length x.cells) (length component.shared) 0 (reading x.code)) same
+    (subst (λ n. IsSteady n (length component.shared) 0 (reading c.task.code)) count code)
+
+pub writes_cells : (component : Component) → IsSteadyComponent component → WritesCells component
+writes_cells component steady me task e = steady_writes (length task.cells) (length component.shared) 0 (reading task.code) (steady me task e)

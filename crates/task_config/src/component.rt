@@ -3,6 +3,7 @@
 ghost use Rattle.std.specs.Prelude.{◌≡◌, ℕ, List, [], ◌∷◌, ◌++◌, IfOk, OnOk, length, flat_map};
 ghost use Rattle.st_tree.specs.Code.{reading};
 ghost use Rattle.st_tree.specs.Names.{UsesDeclared};
+ghost use Rattle.st_tree.specs.Steady.{IsSteadyComponent};
 ghost use Rattle.st_tree.specs.Writes.{WritesCells};
 ghost use Rattle.st_tree.specs.declared.tree.Unit.{Unit as SourceUnit};
 ghost use Rattle.task_config.specs.Plan.{cell_of, decl_cells, unit_cells, IsComponent};
@@ -21,6 +22,7 @@ pub fn plan(alloc: Global, tree: &SourceTree) -> Result<Component, NoMemory>
     ensures tasks { IfOk result (λ component. length component.tasks ≡ length tree.now.units) }
     ensures written { (unit : SourceUnit) → tree.now.units ≡ unit ∷ [] → IfOk result (λ component. IsWritten unit component) }
     ensures component { (unit : SourceUnit) → tree.now.units ≡ unit ∷ [] → UsesDeclared unit → IfOk result (λ component. IsComponent unit component) }
+    ensures steady { (unit : SourceUnit) → tree.now.units ≡ unit ∷ [] → UsesDeclared unit → IfOk result IsSteadyComponent }
     ensures writes { (unit : SourceUnit) → tree.now.units ≡ unit ∷ [] → UsesDeclared unit → IfOk result WritesCells }
 {
     Ok(component_of(alloc, tree)?)
