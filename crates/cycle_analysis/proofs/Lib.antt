@@ -13,3 +13,4 @@ pub mod Rounds
 pub mod Sites
 pub mod Told
 pub mod Rising
+pub mod OneTable

@@ -7,3 +7,5 @@ pub mod Nested
 pub mod Names
 pub mod Holders
 pub mod Feeds
+pub mod OnePosition
+pub mod OneStatement

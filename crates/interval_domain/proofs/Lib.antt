@@ -3,3 +3,4 @@ pub mod Laws
 pub mod Rounding
 pub mod Searching
 pub mod Sets
+pub mod OneGrid

@@ -11,3 +11,7 @@ pub mod Made
 pub mod Parsed
 pub mod Runs
 pub mod Says
+pub mod OneAlarms
+pub mod OneRanges
+pub mod OneVerdict
+pub mod OneReport

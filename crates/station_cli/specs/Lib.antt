@@ -7,3 +7,4 @@ pub mod Run
 pub mod Headline
 pub mod Causes
 pub mod Codes
+pub mod OneReport

@@ -3,6 +3,7 @@
 
 ghost use Rattle.std.specs.Prelude.{◌≡◌};
 
+pub mod law;
 mod report;
 pub mod run;
 pub mod status;

@@ -8,3 +8,4 @@ pub mod Starts
 pub mod Turns
 pub mod Taken
 pub mod Flat
+pub mod OneFront

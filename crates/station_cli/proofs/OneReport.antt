@@ -1,0 +1,109 @@
+-- A file has one report.
+use Rattle.std.proofs.Common.{◌≡◌, ℕ, List, [], ◌∷◌, sym, ap, subst, ◌∙◌, inl, inr}
+use Rattle.std.specs.Prelude.{ℤ, ◌↔◌}
+use Rattle.std.specs.List.{Contains}
+use Rattle.std.proofs.lemmas.Option.{same_Some}
+use Rattle.interval_domain.proofs.OneGrid.{one_grid}
+use Rattle.token_grammar.specs.declared.token.Token.{Token}
+use Rattle.token_grammar.specs.Texts.{Lexeme, lexemes}
+use Rattle.token_grammar.specs.Grammar.{IsLongest}
+use Rattle.token_grammar.proofs.OneFront.{one_rest}
+use Rattle.st_lexer.specs.Cut.{IsCut}
+use Rattle.st_tree.specs.declared.fault.FaultCode.TheVariants.{NotBuilt}
+use Rattle.st_tree.specs.declared.tree.Unit.{Unit as SourceUnit}
+use Rattle.st_tree.specs.declared.tree.SourceTree.{SourceTree}
+use Rattle.st_tree.specs.declared.code.TaskCode.{TaskCode}
+use Rattle.st_tree.specs.declared.code.Component.{Component}
+use Rattle.st_tree.specs.Code.{reading}
+use Rattle.st_tree.specs.Nodes.{IsNumbered}
+use Rattle.st_expr.specs.FirstForm.{program, place_at, IsTree, IsRefused}
+use Rattle.st_expr.specs.Laws.{OneTree}
+use Rattle.task_config.specs.Plan.{IsTask, IsComponent}
+use Rattle.cycle_analysis.specs.Pass.{Entry as Told, Passed}
+use Rattle.cycle_analysis.specs.Table.{Part, pass_of, IsSolution}
+use Rattle.cycle_analysis.proofs.OneTable.{AreAlike, same_pass, one_table}
+use Rattle.finding_spans.proofs.OnePosition.{one_position}
+use Rattle.finding_spans.specs.declared.report.Refusal.{Refusal}
+use Rattle.finding_spans.specs.declared.report.Report.{Report}
+use Rattle.station_cli.specs.Report.{AreAlarms, AreRanges, IsReportOf, IsAnalysed, IsRefusal, IsReport}
+use Rattle.station_cli.proofs.OneAlarms.{one_alarms}
+use Rattle.station_cli.proofs.OneRanges.{one_ranges}
+use Rattle.station_cli.proofs.OneVerdict.{one_plain, one_refused}
+
+-- a text has one cut
+abbrev pub OneCut : Type 0
+OneCut = (text : List ℕ) (xs ys : List Token) → IsCut text xs → IsCut text ys → xs ≡ ys
+
+-- ---- a text that is analysed
+
+first_same : {X : Type 0} (x y : X) (xs : List X) → xs ≡ x ∷ [] → xs ≡ y ∷ [] → x ≡ y
+first_same x y xs a b = let e = sym a ∙ b in cc e
+
+-- the task of a component
+task_is : (unit : SourceUnit) (c : Component) (t : TaskCode) → IsComponent unit c → c.tasks ≡ t ∷ [] → IsTask unit t
+task_is unit c t h e = subst (IsTask unit) (first_same h.task t c.tasks h.tasks e) h.is_task
+
+-- two components of one unit
+alike : (unit : SourceUnit) (c d : Component) (t u : TaskCode) → IsComponent unit c → IsComponent unit d → c.tasks ≡ t ∷ [] → d.tasks ≡ u ∷ [] → AreAlike c d t u
+alike unit c d t u a b first second =
+    let left = task_is unit c t a first in
+    let right = task_is unit d u b second in
+    record {
+      first = first;
+      second = second;
+      code = same_Some (reading t.code) (reading u.code) (left.code ∙ sym right.code);
+      cells = left.cells ∙ sym right.cells;
+      shared = a.shared ∙ sym b.shared;
+    }
+
+same_literals : (unit : SourceUnit) (c d : Component) → IsComponent unit c → IsComponent unit d → (n : ℤ) → Contains c.literals n ↔ Contains d.literals n
+same_literals unit c d a b n = ((λ h. (b.literals n).1 ((a.literals n).0 h)), (λ h. (a.literals n).1 ((b.literals n).0 h)))
+
+one_report_of : (name text : List ℕ) (tree : SourceTree) (made other : Report) → IsNumbered tree → IsReportOf name text tree made → IsReportOf name text tree other → made ≡ other
+one_report_of name text tree made other numbered a b =
+    let unit : b.unit ≡ a.unit = first_same b.unit a.unit tree.units b.units a.units in
+    let planned : IsComponent a.unit b.component = subst (λ (u : SourceUnit). IsComponent u b.component) unit b.planned in
+    let same = alike a.unit a.component b.component a.task b.task a.planned planned a.tasks b.tasks in
+    let grid : b.grid ≡ a.grid = sym (one_grid a.component.literals b.component.literals a.grid b.grid (same_literals a.unit a.component b.component a.planned planned) a.grid_is b.grid_is) in
+    let solved : IsSolution a.grid b.component b.table = subst (λ (g : List ℤ). IsSolution g b.component b.table) grid b.solved in
+    let table : b.table ≡ a.table = sym (one_table a.grid a.component b.component a.task b.task a.table b.table same a.solved solved) in
+    let log : (pass_of b.task b.table 0).log ≡ (pass_of a.task a.table 0).log =
+    ap (λ (t : List Part). (pass_of b.task t 0).log) table ∙ ap (λ (p : Passed). p.log) (sym (same_pass a.task b.task a.table 0 same.code)) in
+    let told : AreAlarms name text tree a.unit (pass_of a.task a.table 0).log other.alarms =
+    subst (λ (l : List Told). AreAlarms name text tree a.unit l other.alarms) log (subst (λ (u : SourceUnit). AreAlarms name text tree u (pass_of b.task b.table 0).log other.alarms) unit b.alarms) in
+    let ranges : AreRanges b.task a.table other.ranges = subst (λ (t : List Part). AreRanges b.task t other.ranges) table b.ranges in
+    one_plain made other (record { no_refusal = a.no_refusal; counted = a.counted; waived = a.waived }) (record { no_refusal = b.no_refusal; counted = b.counted; waived = b.waived })
+    (one_alarms name text tree a.unit (pass_of a.task a.table 0).log a.units numbered made.alarms other.alarms a.alarms told)
+    (one_ranges a.task b.task a.table made.ranges other.ranges same.cells a.ranges ranges)
+
+-- ---- a text that is refused
+
+abbrev refusal_at : (name : List ℕ) → (line column : ℕ) → Refusal
+refusal_at name line column = record { file = name; line = line; column = column; code = NotBuilt }
+
+one_refusal : (name text : List ℕ) (made other : Report) → (a : IsRefusal name text made) (b : IsRefusal name text other) → a.tokens ≡ b.tokens → made ≡ other
+one_refusal name text made other a b e =
+    let longest : IsLongest program (lexemes text a.tokens) b.refused.rest = subst (λ (ts : List Token). IsLongest program (lexemes text ts) b.refused.rest) (sym e) b.refused.longest in
+    let rest : a.refused.rest ≡ b.refused.rest = one_rest program (lexemes text a.tokens) a.refused.rest b.refused.rest a.refused.longest longest in
+    let at : a.at ≡ b.at = a.refused.place ∙ ap (λ (ls : List Lexeme). place_at text ls) rest ∙ sym b.refused.place in
+    let position = one_position text a.at b.at a.line a.column b.line b.column at a.position b.position in
+    one_refused made other (refusal_at name a.line a.column) (refusal_at name b.line b.column) a.verdict_is b.verdict_is (λ i. refusal_at name (position.0 i) (position.1 i)) a.counted b.counted a.waived b.waived
+
+-- what is analysed isn't refused
+not_both : (text : List ℕ) (xs ys : List Token) (tree : SourceTree) (at : ℕ) → xs ≡ ys → IsTree text xs tree → IsRefused text ys at → ⊥
+not_both text xs ys tree at e is refused = refused.unspelled tree (subst (λ (ts : List Token). IsTree text ts tree) e is)
+
+-- ---- the law, from those of the lexer and the parser
+
+module _ (one_cut : OneCut) (one_tree : OneTree) where
+  analysed : (name text : List ℕ) (made other : Report) → IsAnalysed name text made → IsAnalysed name text other → made ≡ other
+  analysed name text made other a b =
+      let tokens : a.tokens ≡ b.tokens = one_cut text a.tokens b.tokens a.cut b.cut in
+      let tree : a.tree ≡ b.tree = one_tree text b.tokens a.tree b.tree (subst (λ (ts : List Token). IsTree text ts a.tree) tokens a.spelled) b.spelled in
+      one_report_of name text b.tree made other b.spelled.numbered (subst (λ (t : SourceTree). IsReportOf name text t made) tree a.report) b.report
+
+  pub one_report : (name text : List ℕ) (made other : Report) → IsReport name text made → IsReport name text other → made ≡ other
+  one_report name text made other (inl a) (inl b) = analysed name text made other a b
+  one_report name text made other (inl a) (inr b) = absurd (not_both text a.tokens b.tokens a.tree b.at (one_cut text a.tokens b.tokens a.cut b.cut) a.spelled b.refused)
+  one_report name text made other (inr a) (inl b) = absurd (not_both text b.tokens a.tokens b.tree a.at (one_cut text b.tokens a.tokens b.cut a.cut) b.spelled a.refused)
+  one_report name text made other (inr a) (inr b) = one_refusal name text made other a b (one_cut text a.tokens b.tokens a.cut b.cut)

@@ -1,0 +1,11 @@
+// What the definitions say of reports.
+
+ghost use Rattle.station_cli.specs.OneReport.{OneReport};
+
+/// A file has one report: its name and its bytes determine the verdict, each alarm, each range and the counts.
+pub fn one_report()
+    ensures { OneReport }
+{
+    st_lexer::one_cut();
+    st_expr::tree_laws();
+}
