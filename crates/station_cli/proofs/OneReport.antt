@@ -1,4 +1,4 @@
--- A file has one report.
+-- A file has one report at most.
 use Rattle.std.proofs.Common.{◌≡◌, ℕ, List, [], ◌∷◌, sym, ap, subst, ◌∙◌, inl, inr}
 use Rattle.std.specs.Prelude.{ℤ, ◌↔◌}
 use Rattle.std.specs.List.{Contains}

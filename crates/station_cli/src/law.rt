@@ -2,7 +2,7 @@
 
 ghost use Rattle.station_cli.specs.OneReport.{OneReport};
 
-/// A file has one report: its name and its bytes determine the verdict, each alarm, each range and the counts.
+/// A file has one report at most: its name and its bytes determine the verdict, each alarm, each range and the counts.
 pub fn one_report()
     ensures { OneReport }
 {
