@@ -58,11 +58,11 @@ ends_by old_out new_out status ended text (Ok done) put e = inl e
 ends_by old_out new_out status ended text (Err refusal.NoMemory) put e = inr (inr e)
 ends_by old_out new_out status ended text (Err refusal.Failed) put e = after_put old_out new_out status ended (put.cause.failed refl) e
 
-ends : {status ended : Status} {text : List ℕ} {old_out new_out : PortView} → IsWritten old_out new_out status text ended → Ends status old_out new_out ended
+pub ends : {status ended : Status} {text : List ℕ} {old_out new_out : PortView} → IsWritten old_out new_out status text ended → Ends status old_out new_out ended
 ends {status} {ended} {text} {old_out} {new_out} put = ends_by old_out new_out status ended text put.answer put.written put.status_is
 
 -- want of memory stays want of memory
-ended_so : (ended : Status) (answer : Result (Unit {0}) PutRefusal) → ended ≡ status_after NoMemory answer → ended ≡ NoMemory
+pub ended_so : (ended : Status) (answer : Result (Unit {0}) PutRefusal) → ended ≡ status_after NoMemory answer → ended ≡ NoMemory
 ended_so ended (Ok done) e = e
 ended_so ended (Err refusal.NoMemory) e = e
 ended_so ended (Err refusal.Failed) e = e

@@ -15,3 +15,4 @@ pub mod OneAlarms
 pub mod OneRanges
 pub mod OneVerdict
 pub mod OneReport
+pub mod Reported

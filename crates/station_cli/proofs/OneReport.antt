@@ -44,7 +44,7 @@ task_is : (unit : SourceUnit) (c : Component) (t : TaskCode) → IsComponent uni
 task_is unit c t h e = subst (IsTask unit) (first_same h.task t c.tasks h.tasks e) h.is_task
 
 -- two components of one unit
-alike : (unit : SourceUnit) (c d : Component) (t u : TaskCode) → IsComponent unit c → IsComponent unit d → c.tasks ≡ t ∷ [] → d.tasks ≡ u ∷ [] → AreAlike c d t u
+pub alike : (unit : SourceUnit) (c d : Component) (t u : TaskCode) → IsComponent unit c → IsComponent unit d → c.tasks ≡ t ∷ [] → d.tasks ≡ u ∷ [] → AreAlike c d t u
 alike unit c d t u a b first second =
     let left = task_is unit c t a first in
     let right = task_is unit d u b second in

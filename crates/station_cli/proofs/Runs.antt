@@ -17,6 +17,7 @@ use Rattle.task_meaning.specs.Meaning.{State, TaskState, Numbers, Move, Outcome,
 use Rattle.cycle_analysis.specs.Pass.{Reached, Passed, Entry as Told, Wrote, Alarm as Alarmed, at, pass}
 use Rattle.cycle_analysis.specs.Table.{Part, part_at, others, pass_of, points, own_range, IsClosed, IsClosedFor, IsBelow, InPart, Each, IsAlarmed, InRanges, IsCovered, Theorem}
 use Rattle.cycle_analysis.proofs.Lists.{later_in}
+use Rattle.cycle_analysis.proofs.OneTable.{AreAlike, alike_back, same_pass, closed_too}
 use Rattle.cycle_analysis.proofs.Intervals.{within_holds}
 use Rattle.finding_spans.specs.declared.report.Alarm.{Alarm}
 use Rattle.finding_spans.specs.declared.report.Entry.{Entry}
@@ -24,63 +25,14 @@ use Rattle.finding_spans.specs.declared.report.RangeLine.{RangeLine}
 use Rattle.finding_spans.specs.declared.report.Report.{Report}
 use Rattle.station_cli.specs.Report.{IsTold, IsHull, IsAlarm, AreAlarms, AreRanges, IsReportOf}
 use Rattle.station_cli.specs.Headline.{InLine, InLines, AtAlarm, IsForetold}
-
--- ---- two components of one unit
-
--- what two components of one unit have in common
-pub record IsSame (component other : Component) : Type 0 where
-  pub task : TaskCode
-  pub twin : TaskCode
-  pub tasks : component.tasks ≡ task ∷ []
-  pub twins : other.tasks ≡ twin ∷ []
-  pub code : reading task.code ≡ reading twin.code
-  pub cells : task.cells ≡ twin.cells
-  pub shared : component.shared ≡ other.shared
+use Rattle.station_cli.proofs.OneReport.{alike}
 
 some_is : {A : Type 0} (x y : A) → Some x ≡ Some y → x ≡ y
 some_is x y e = cc
 
-pub same_of_unit : (unit : SourceUnit) (component other : Component) → IsComponent unit component → IsComponent unit other → IsSame component other
-same_of_unit unit component other a b = record {
-  task = a.task;
-  twin = b.task;
-  tasks = a.tasks;
-  twins = b.tasks;
-  code = some_is _ _ (a.is_task.code ∙ sym b.is_task.code);
-  cells = a.is_task.cells ∙ sym b.is_task.cells;
-  shared = a.shared ∙ sym b.shared;
-}
-
--- the pass depends on the code as it reads
-same_pass : (task twin : TaskCode) (table : List Part) (me : ℕ) → reading task.code ≡ reading twin.code → pass_of task table me ≡ pass_of twin table me
-same_pass task twin table me e = ap (λ (code : Instructions). pass (record { during = others table me }) code [] (Reached (part_at table me).cycle.own (part_at table me).cycle.views)) e
-
 only_one : (task t : TaskCode) (me : ℕ) → slice_get (task ∷ []) me ≡ Some t → (me ≡ 0) × (task ≡ t)
 only_one task t zero e = (refl, some_is task t e)
 only_one task t (suc me) e = absurd cc
-
-closed_for : (grid : List ℤ) (component other : Component) (table : List Part) (task twin : TaskCode) → reading task.code ≡ reading twin.code → task.cells ≡ twin.cells → component.shared ≡ other.shared
-    → IsClosedFor grid component table 0 task → IsClosedFor grid other table 0 twin
-closed_for grid component other table task twin code cells shared h =
-    let n = ap length cells in
-    let m = ap length shared in
-    let p = same_pass task twin table 0 code in
-    record {
-      cells = record { head = h.cells.head ∙ n; views = h.cells.views ∙ m; own = h.cells.own ∙ n; shared = h.cells.shared ∙ m };
-      start = subst (λ (x : List CellInfo). IsBelow grid (Reached (points twin.cells) (points x)) (part_at table 0).cycle) shared
-          (subst (λ (x : List CellInfo). IsBelow grid (Reached (points x) (points component.shared)) (part_at table 0).cycle) cells h.start);
-      turns = subst (λ (x : Passed). IsBelow grid x.state (part_at table 0).cycle) p h.turns;
-      log = subst (λ (x : Passed). Each (InPart grid (part_at table 0)) x.log) p h.log;
-    }
-
-closed_same : (grid : List ℤ) (component other : Component) (table : List Part) → IsSame component other → IsClosed grid component table → IsClosed grid other table
-closed_same grid component other table s h = record {
-  parts = h.parts ∙ ap length s.tasks ∙ sym (ap length s.twins);
-  each = λ me t there.
-      let one = only_one s.twin t me (sym (ap (λ (tasks : List TaskCode). slice_get tasks me) s.twins) ∙ there) in
-      let first : slice_get component.tasks 0 ≡ Some s.task = ap (λ (tasks : List TaskCode). slice_get tasks 0) s.tasks in
-      rw one.0 (subst (IsClosedFor grid other table 0) one.1 (closed_for grid component other table s.task s.twin s.code s.cells s.shared (h.each 0 s.task first)));
-}
 
 -- ---- ranges
 
@@ -129,32 +81,28 @@ at_alarm name text tree unit log alarms kind site value all h =
     let there : Contains log (Alarmed e.0.item.kind e.0.item.site t.0) = subst (λ (x : Kind). Contains log (Alarmed x e.0.item.site t.0)) (sym e.2) (subst (λ (x : Site). Contains log (Alarmed kind x t.0)) (sym e.3) t.1) in
     (e.0, e.1, e.2, e.3, within_holds t.0 (Span e.0.item.low e.0.item.high) (kept value) (a.range.holds t.0 there) t.2)
 
--- ---- the whole
+-- ---- the whole, for each component of the unit
 
-first_task : (component : Component) (a b : TaskCode) → component.tasks ≡ a ∷ [] → component.tasks ≡ b ∷ [] → a ≡ b
-first_task component a b e f = some_is a b (ap (λ (tasks : List TaskCode). slice_get tasks 0) (sym e ∙ f))
+module _ (name text : List ℕ) (tree : SourceTree) (made : Report) (r : IsReportOf name text tree made) (component : Component) (task : TaskCode) (a : AreAlike r.component component r.task task) where
+  -- the lines of the cells of one component are those of the other's
+  lines_too : AreRanges task r.table made.ranges
+  lines_too = record {
+    names = r.ranges.names ∙ ap (λ (cells : List CellInfo). map (λ cell. cell.path) cells) a.cells;
+    ranges = λ k line there. ap (λ (cells : List CellInfo). hull (at (points cells) k) (at (part_at r.table 0).own k)) (sym a.cells) ∙ r.ranges.ranges k line there;
+  }
 
--- the lines of the cells of one component are those of the other's
-lines_of_twin : (name text : List ℕ) (tree : SourceTree) (made : Report) (r : IsReportOf name text tree made) (component : Component) (s : IsSame r.component component) → AreRanges s.twin r.table made.ranges
-lines_of_twin name text tree made r component s =
-    let cells : r.task.cells ≡ s.twin.cells = ap (λ (t : TaskCode). t.cells) (sym (first_task r.component s.task r.task s.tasks r.tasks)) ∙ s.cells in
-    record {
-      names = r.ranges.names ∙ ap (λ (cells : List CellInfo). map (λ cell. cell.path) cells) cells;
-      ranges = λ k line there. ap (λ (cells : List CellInfo). hull (at (points cells) k) (at (part_at r.table 0).own k)) (sym cells) ∙ r.ranges.ranges k line there;
-    }
-
-foretold_by : (name text : List ℕ) (tree : SourceTree) (made : Report) (r : IsReportOf name text tree made) (component : Component) (s : IsSame r.component component) (outcome : Outcome) → IsCovered component r.table outcome → IsForetold component made outcome
-foretold_by name text tree made r component s (Continues state) h = in_lines component s.twin r.table made.ranges state s.twins (lines_of_twin name text tree made r component s) h
-foretold_by name text tree made r component s (Faulty state me kind site value) h =
-    let (task, there, alarmed) = h.1 in
-    let one = only_one s.twin task me (sym (ap (λ (tasks : List TaskCode). slice_get tasks me) s.twins) ∙ there) in
-    let same : pass_of task r.table me ≡ pass_of r.task r.table 0 =
-    ap (λ (t : TaskCode). pass_of t r.table me) (sym one.1) ∙ ap (pass_of s.twin r.table) one.0 ∙ sym (same_pass s.task s.twin r.table 0 s.code) ∙ ap (λ (t : TaskCode). pass_of t r.table 0) (first_task r.component s.task r.task s.tasks r.tasks) in (
-      in_lines component s.twin r.table made.ranges state s.twins (lines_of_twin name text tree made r component s) h.0,
-      at_alarm name text tree r.unit (pass_of r.task r.table 0).log made.alarms kind site value r.alarms (subst (λ (p : Passed). IsAlarmed p.log kind site value) same alarmed),
-    )
+  foretold_by : (outcome : Outcome) → IsCovered component r.table outcome → IsForetold component made outcome
+  foretold_by (Continues state) h = in_lines component task r.table made.ranges state a.second lines_too h
+  foretold_by (Faulty state me kind site value) h =
+      let (t, there, alarmed) = h.1 in
+      let one = only_one task t me (sym (ap (λ (tasks : List TaskCode). slice_get tasks me) a.second) ∙ there) in
+      let same : pass_of t r.table me ≡ pass_of r.task r.table 0 =
+          ap (λ (u : TaskCode). pass_of u r.table me) (sym one.1) ∙ ap (pass_of task r.table) one.0 ∙ sym (same_pass r.task task r.table 0 a.code) in
+      (in_lines component task r.table made.ranges state a.second lines_too h.0,
+       at_alarm name text tree r.unit (pass_of r.task r.table 0).log made.alarms kind site value r.alarms (subst (λ (p : Passed). IsAlarmed p.log kind site value) same alarmed))
 
 pub foretold : Theorem → (name text : List ℕ) (tree : SourceTree) (made : Report) (r : IsReportOf name text tree made) (component : Component) → IsComponent r.unit component → (moves : List Move) → IsForetold component made (run component moves (start component))
 foretold law name text tree made r component planned moves =
-    let s = same_of_unit r.unit r.component component r.planned planned in
-    foretold_by name text tree made r component s (run component moves (start component)) (law r.grid component r.table (closed_same r.grid r.component component r.table s r.solved.closed) moves)
+    let a = alike r.unit r.component component r.task planned.task r.planned planned r.tasks planned.tasks in
+    foretold_by name text tree made r component planned.task a (run component moves (start component))
+    (law r.grid component r.table (closed_too r.grid component r.component planned.task r.task r.table (alike_back r.component component r.task planned.task a) r.solved.closed) moves)

@@ -18,7 +18,9 @@ use Rattle.st_expr.specs.FirstForm.{IsTree}
 use Rattle.st_expr.specs.Laws.{OneTree}
 use Rattle.task_config.specs.Plan.{IsComponent}
 use Rattle.task_meaning.specs.Meaning.{Move, Outcome, Continues, Faulty, start, run}
+use Rattle.task_config.proofs.Planned.{component_steady}
 use Rattle.cycle_analysis.specs.Table.{Theorem}
+use Rattle.cycle_analysis.specs.Steady.{Theorem_steady}
 use Rattle.finding_spans.specs.declared.report.Alarm.{Alarm}
 use Rattle.finding_spans.specs.declared.report.Entry.{Entry}
 use Rattle.finding_spans.specs.declared.report.Report.{Report}
@@ -31,8 +33,9 @@ use Rattle.station_cli.specs.Report.{IsReport, IsAnalysed, IsRefusal}
 use Rattle.station_cli.specs.Reports.{Fits}
 use Rattle.station_cli.specs.Run.{World, Course, misused, checked, too_long, unread, out_of_memory, Happens, max_file, IsWork, IsWritten}
 use Rattle.station_cli.specs.Run as runs
-use Rattle.station_cli.specs.Headline.{IsProgram, IsForetold, IsFaultless, IsOfReport, IsSafe, FreeIsSafe, IsCovered, AlarmsCover}
+use Rattle.station_cli.specs.Headline.{IsProgram, IsForetold, IsFaultless, IsOfReport, IsSafe, FreeIsSafe, NeverWaits, IsCovered, AlarmsCover}
 use Rattle.station_cli.specs.declared.status.Status.{Status}
+use Rattle.station_cli.proofs.OneReport.{OneCut}
 use Rattle.station_cli.proofs.Runs.{foretold}
 
 -- ---- what was put
@@ -100,9 +103,6 @@ analysed_of name text made (inr r) h = absurd (h _ r.verdict_is)
 
 -- ---- the program of the text is the one that was analysed
 
-abbrev pub OneCut : Type 0
-OneCut = (text : List ℕ) (xs ys : List Token) → IsCut text xs → IsCut text ys → xs ≡ ys
-
 units_are : (u v : SourceUnit) → u ∷ [] ≡ v ∷ [] → u ≡ v
 units_are u v e = cc
 
@@ -118,6 +118,9 @@ program_of name text made a = record { tokens = a.tokens; tree = a.tree; unit = 
 
 foretold_of : Theorem → OneCut → OneTree → (name text : List ℕ) (made : Report) → IsAnalysed name text made → (component : Component) → IsProgram text component → (moves : List Move) → IsForetold component made (run component moves (start component))
 foretold_of law one_cut one_tree name text made a component p moves = foretold law name text a.tree made a.report component (planned_of one_cut one_tree name text made a component p) moves
+
+live_of : Theorem_steady → (text : List ℕ) → NeverWaits text
+live_of steady text component p moves state e = steady component (component_steady p.unit component p.planned) moves state e
 
 -- without alarms there is no fault
 no_alarm : (alarms : List (Entry Alarm)) (e : Entry Alarm) → length alarms ≡ 0 → Contains alarms e → ⊥
@@ -146,35 +149,37 @@ of_report words old bytes text n letter e c a = record {
   defined = program_of c.name c.content c.made a;
 }
 
-module _ (law : Theorem) (one_cut : OneCut) (one_tree : OneTree) (words : List (List ℕ)) (old : World) (bytes text : List ℕ) (n : ℕ) (e : bytes ≡ take n text) where
+module _ (law : Theorem) (steady : Theorem_steady) (one_cut : OneCut) (one_tree : OneTree) (words : List (List ℕ)) (old : World) (bytes text : List ℕ) (n : ℕ) (e : bytes ≡ take n text) where
   is_safe : (c : IsChecked (command_of words) old 70 text) → c.made.verdict ≡ verdict.Free → IsAnalysed c.name c.content c.made → IsSafe words old bytes
   is_safe c free a = record {
     of_report = of_report words old bytes text n 70 e c a;
     free = free;
     faultless = λ component q moves. faultless_by component c.made (run component moves (start component)) (free_alarms c.made.verdict _ _ free a.report.counted.verdict)
         (foretold_of law one_cut one_tree c.name c.content c.made a component q moves);
+    live = live_of steady c.content;
   }
 
   is_covered : (c : IsChecked (command_of words) old 65 text) → IsAnalysed c.name c.content c.made → IsCovered words old bytes
   is_covered c a = record {
     of_report = of_report words old bytes text n 65 e c a;
     foretold = λ component q moves. foretold_of law one_cut one_tree c.name c.content c.made a component q moves;
+    live = live_of steady c.content;
   }
 
 no_refusal : (v : Verdict) (told : Refusal) → v ≡ verdict.Free → v ≡ verdict.Refused told → ⊥
 no_refusal v told e f = let clash : verdict.Free ≡ verdict.Refused told = sym e ∙ f in cc
 
-module _ (law : Theorem) (one_cut : OneCut) (one_tree : OneTree) (words : List (List ℕ)) {old new : World} {status ended : Status} {text : List ℕ} {old_out new_out : PortView}
+module _ (law : Theorem) (steady : Theorem_steady) (one_cut : OneCut) (one_tree : OneTree) (words : List (List ℕ)) {old new : World} {status ended : Status} {text : List ℕ} {old_out new_out : PortView}
     (work : IsWork (command_of words) old new status text) (put : IsWritten old_out new_out status text ended) where
   pub free_says : FreeIsSafe words old old_out new_out
   free_says before bytes says =
       let p : (n : ℕ) × (bytes ≡ take n text) = put_prefix old_out.sent new_out.sent before bytes text put.answer says.old_bytes says.new_bytes put.written.bytes_put in
       let c = checked_of (command_of words) old new 70 work.course text (omega arith) work.cause work.text_is (ninth text bytes (codes "VERDICT FREE\n") p.0 13 70 p.1 says.begins refl (lit< tt) refl) in
       let free = report_free c.made c.begins in
-      is_safe law one_cut one_tree words old bytes text p.0 p.1 c free (analysed_of c.name c.content c.made c.report (λ told is. no_refusal c.made.verdict told free is))
+      is_safe law steady one_cut one_tree words old bytes text p.0 p.1 c free (analysed_of c.name c.content c.made c.report (λ told is. no_refusal c.made.verdict told free is))
 
   pub alarms_say : AlarmsCover words old old_out new_out
   alarms_say before bytes says =
       let p : (n : ℕ) × (bytes ≡ take n text) = put_prefix old_out.sent new_out.sent before bytes text put.answer says.old_bytes says.new_bytes put.written.bytes_put in
       let c = checked_of (command_of words) old new 65 work.course text (omega arith) work.cause work.text_is (ninth text bytes (codes "VERDICT ALARMS ") p.0 15 65 p.1 says.begins refl (lit< tt) refl) in
-      is_covered law one_cut one_tree words old bytes text p.0 p.1 c (analysed_of c.name c.content c.made c.report (λ told is. report_kept c.made told c.begins is))
+      is_covered law steady one_cut one_tree words old bytes text p.0 p.1 c (analysed_of c.name c.content c.made c.report (λ told is. report_kept c.made told c.begins is))

@@ -16,6 +16,7 @@ use Rattle.st_tree.specs.declared.code.Component.{Component}
 use Rattle.st_expr.specs.FirstForm.{IsTree}
 use Rattle.task_config.specs.Plan.{IsComponent}
 use Rattle.task_meaning.specs.Meaning.{State, TaskState, Numbers, Move, Outcome, Continues, Faulty, start, run}
+use Rattle.cycle_analysis.specs.Steady.{NoneWaits}
 use Rattle.finding_spans.specs.declared.report.Alarm.{Alarm}
 use Rattle.finding_spans.specs.declared.report.Entry.{Entry}
 use Rattle.finding_spans.specs.declared.report.RangeLine.{RangeLine}
@@ -66,6 +67,12 @@ abbrev pub IsFaultless : Component → Report → Outcome → Type 0
 IsFaultless component made (Continues state) = InLines component made.ranges state
 IsFaultless component made (Faulty state me kind site value) = ⊥
 
+-- In each state of each run of the program each task has something that it can do, so that no step is missing from a run.
+abbrev pub NeverWaits : List ℕ → Type 0
+NeverWaits text =
+    (component : Component) → IsProgram text component →
+    (moves : List Move) (state : State) → run component moves (start component) ≡ Continues state → NoneWaits component state
+
 -- ---- what was put
 
 -- These bytes were put, and they begin so.
@@ -93,6 +100,7 @@ pub record IsSafe (words : List (List ℕ)) (old : World) (bytes : List ℕ) : T
   pub of_report : IsOfReport words old bytes
   pub free : of_report.made.verdict ≡ Free
   pub faultless : (component : Component) → IsProgram of_report.text component → (moves : List Move) → IsFaultless component of_report.made (run component moves (start component))
+  pub live : NeverWaits of_report.text
 
 -- Wherever the bytes that were put say FREE, also in a report that was cut short, the program is safe.
 abbrev pub FreeIsSafe : List (List ℕ) → World → PortView → PortView → Type 0
@@ -103,6 +111,7 @@ FreeIsSafe words old old_out new_out = (before bytes : List ℕ) → Says old_ou
 pub record IsCovered (words : List (List ℕ)) (old : World) (bytes : List ℕ) : Type 0 where
   pub of_report : IsOfReport words old bytes
   pub foretold : (component : Component) → IsProgram of_report.text component → (moves : List Move) → IsForetold component of_report.made (run component moves (start component))
+  pub live : NeverWaits of_report.text
 
 -- Wherever the bytes that were put say ALARMS, the report covers each run.
 abbrev pub AlarmsCover : List (List ℕ) → World → PortView → PortView → Type 0

@@ -1,6 +1,6 @@
 // What the definitions say of reports.
 
-ghost use Rattle.station_cli.specs.OneReport.{OneReport};
+ghost use Rattle.station_cli.specs.OneReport.{OneReport, OneCourse};
 
 /// A file has one report at most: its name and its bytes determine the verdict, each alarm, each range and the counts.
 pub fn one_report()
@@ -8,4 +8,11 @@ pub fn one_report()
 {
     st_lexer::one_cut();
     st_expr::tree_laws();
+}
+
+/// Where the files tell, the words and the contents determine the status and the bytes of a call that comes to its end.
+pub fn one_course()
+    ensures { OneCourse }
+{
+    one_report();
 }

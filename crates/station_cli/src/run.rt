@@ -5,8 +5,9 @@ ghost use Rattle.report_text.specs.Text as report_text;
 ghost use Rattle.station_cli.specs.Words.{check, command_of};
 ghost use Rattle.station_cli.specs.Run.{IsRun, IsWork, IsWritten, verdict_status};
 ghost use Rattle.station_cli.specs.Headline.{FreeIsSafe, AlarmsCover};
-ghost use Rattle.station_cli.specs.Causes.{Completes, IsReportedAs, IsAboveLimit, IsToldAbove, Ends, EndsTooLong};
+ghost use Rattle.station_cli.specs.Causes.{Completes, IsReportedAs, IsToldReported, EndsReported, IsAboveLimit, IsToldAbove, Ends, EndsTooLong};
 
+use crate::law::one_report;
 use crate::report::report_on;
 use crate::status::Status;
 use crate::words::{CommandLine, read_words};
@@ -55,6 +56,8 @@ pub fn run<F: Files, S: Sink, L: Ledger>(
     ensures clean { result ≡ Status.Clean → IsReportedAs (map string_bytes words.now) (record { files = F.view files.old }) Status.Clean }
     ensures open { result ≡ Status.Open → IsReportedAs (map string_bytes words.now) (record { files = F.view files.old }) Status.Open }
     ensures refused { result ≡ Status.Refused → IsReportedAs (map string_bytes words.now) (record { files = F.view files.old }) Status.Refused }
+    ensures reported { (status : Status) → IsToldReported (map string_bytes words.now) (record { files = F.view files.old }) status →
+        EndsReported (record { files = F.view files.old }) (record { files = F.view files.new }) (S.view out.old) (S.view out.new) status result }
     ensures usage { result ≡ Status.Usage → command_of (map string_bytes words.now) ≡ None }
     ensures misused { command_of (map string_bytes words.now) ≡ None → Ends Status.Usage (S.view out.old) (S.view out.new) result }
     ensures too_long { result ≡ Status.TooLong → IsAboveLimit (map string_bytes words.now) (record { files = F.view files.old }) }
@@ -66,6 +69,7 @@ pub fn run<F: Files, S: Sink, L: Ledger>(
     one_cut();
     tree_laws();
     headline();
+    one_report();
     match work(alloc, words, files, steps) {
         Ok(reply) => write_line(out, reply.status, &reply.text),
         Err(NoMemory) => write_no_memory(out),

@@ -1,6 +1,7 @@
 -- The causes and the completeness follow from what the work and the writing ensure.
 use Rattle.station_cli.specs.Run.{out_of_memory}
 use Rattle.station_cli.proofs.Complete.{completes, misused_ends, above_ends}
+use Rattle.station_cli.proofs.Reported.{reported_ends}
 use Rattle.station_cli.proofs.Says.{free_says, alarms_say}
 use Rattle.station_cli.proofs.run.run.Goals as goal
 use Rattle.std.proofs.Common.{refl, map}
@@ -34,19 +35,28 @@ returns-in-Err-clause-above g c =
     c.write_no_memory.ensures
 
 pub returns-in-Ok-clause-free : goal.returns-in-Ok-clause-free
-returns-in-Ok-clause-free g c = free_says c.headline.ensures.covered c.one_cut.ensures c.tree_laws.ensures.one (map string_bytes c.args.words.now) c.in-Ok.ensures.work (rw c.deref.ensures.value at c.write_line.ensures)
+returns-in-Ok-clause-free g c = free_says c.headline.ensures.covered c.headline.ensures.steady c.one_cut.ensures c.tree_laws.ensures.one (map string_bytes c.args.words.now) c.in-Ok.ensures.work (rw c.deref.ensures.value at c.write_line.ensures)
 
 pub returns-in-Ok-clause-alarms : goal.returns-in-Ok-clause-alarms
-returns-in-Ok-clause-alarms g c = alarms_say c.headline.ensures.covered c.one_cut.ensures c.tree_laws.ensures.one (map string_bytes c.args.words.now) c.in-Ok.ensures.work (rw c.deref.ensures.value at c.write_line.ensures)
+returns-in-Ok-clause-alarms g c = alarms_say c.headline.ensures.covered c.headline.ensures.steady c.one_cut.ensures c.tree_laws.ensures.one (map string_bytes c.args.words.now) c.in-Ok.ensures.work (rw c.deref.ensures.value at c.write_line.ensures)
 
 pub returns-in-Err-clause-free : goal.returns-in-Err-clause-free
 returns-in-Err-clause-free g c =
-    free_says c.headline.ensures.covered c.one_cut.ensures c.tree_laws.ensures.one (map string_bytes c.args.words.now) {old = record { files = g.F.Files.view c.args.files.now }} {new = record { files = g.F.Files.view c.work.new.files }}
+    free_says c.headline.ensures.covered c.headline.ensures.steady c.one_cut.ensures c.tree_laws.ensures.one (map string_bytes c.args.words.now) {old = record { files = g.F.Files.view c.args.files.now }} {new = record { files = g.F.Files.view c.work.new.files }}
     (record { course = out_of_memory; cause = tt; status_is = refl; text_is = refl })
     c.write_no_memory.ensures
 
 pub returns-in-Err-clause-alarms : goal.returns-in-Err-clause-alarms
 returns-in-Err-clause-alarms g c =
-    alarms_say c.headline.ensures.covered c.one_cut.ensures c.tree_laws.ensures.one (map string_bytes c.args.words.now) {old = record { files = g.F.Files.view c.args.files.now }} {new = record { files = g.F.Files.view c.work.new.files }}
+    alarms_say c.headline.ensures.covered c.headline.ensures.steady c.one_cut.ensures c.tree_laws.ensures.one (map string_bytes c.args.words.now) {old = record { files = g.F.Files.view c.args.files.now }} {new = record { files = g.F.Files.view c.work.new.files }}
+    (record { course = out_of_memory; cause = tt; status_is = refl; text_is = refl })
+    c.write_no_memory.ensures
+
+pub returns-in-Ok-clause-reported : goal.returns-in-Ok-clause-reported
+returns-in-Ok-clause-reported g c = reported_ends c.one_report.ensures (map string_bytes c.args.words.now) c.in-Ok.ensures.work (rw c.deref.ensures.value at c.write_line.ensures)
+
+pub returns-in-Err-clause-reported : goal.returns-in-Err-clause-reported
+returns-in-Err-clause-reported g c =
+    reported_ends c.one_report.ensures (map string_bytes c.args.words.now) {old = record { files = g.F.Files.view c.args.files.now }} {new = record { files = g.F.Files.view c.work.new.files }}
     (record { course = out_of_memory; cause = tt; status_is = refl; text_is = refl })
     c.write_no_memory.ensures
