@@ -1,5 +1,5 @@
 -- How a sum is begun.
-use Rattle.std.proofs.Common.{◌≡◌, ℕ, ◌-◌, List, Ok, length, refl, sym, ap, ◌∙◌, arith}
+use Rattle.std.proofs.Common.{◌≡◌, ℕ, ◌-◌, Ok, length, ap, ◌∙◌, arith}
 use Rattle.token_grammar.specs.Input.{Input, Outcome, and_then, loop, repeated}
 use Rattle.st_tree.specs.declared.tree.Expr.{Expr}
 use Rattle.st_expr.specs.Parse.{Known, term, more_terms, sees_operator, sum}

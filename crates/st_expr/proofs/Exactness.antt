@@ -1,5 +1,5 @@
 -- The parser of the first form reads its grammar.
-use Rattle.std.proofs.Common.{◌≡◌, ℕ, zero, suc, ◌+◌, ◌<◌, ◌≤◌, Bool, true, false, cond, not, ◌&&◌, ◌||◌, ltb, List, [], ◌∷◌, ◌++◌, length, Result, Ok, Err, refl, sym, ap, subst, ◌∙◌, append_assoc, arith, inl, inr, ◌⊎◌}
+use Rattle.std.proofs.Common.{◌≡◌, ℕ, zero, suc, Bool, true, false, cond, ◌&&◌, ◌||◌, List, [], ◌∷◌, ◌++◌, Ok, Err, refl, sym, ap, subst, ◌∙◌, append_assoc, inl, inr}
 use Rattle.std.proofs.lemmas.List.{append_cancel_right}
 use Rattle.token_grammar.specs.declared.token.TokenKind.{TokenKind}
 use Rattle.token_grammar.specs.declared.token.TokenKind.TheVariants.{Program, EndProgram, Var, EndVar, Int, Name, Number, Becomes, Colon, Comma, Semicolon, Plus, Minus}
@@ -7,22 +7,19 @@ use Rattle.token_grammar.specs.declared.fault.ParseError.TheVariants.{Grammar}
 use Rattle.token_grammar.specs.Texts.{Lexeme}
 use Rattle.token_grammar.specs.Kinds.{is_kind}
 use Rattle.token_grammar.specs.Input.{Input, Outcome, Parser, and_then, pure, take, sees_in, loop, repeated}
-use Rattle.token_grammar.specs.Grammar.{Word, Rule, lexemes_of, Within, ◌>>=◌, ◌or◌, give, token, token_that, token_as, many, times, node}
+use Rattle.token_grammar.specs.Grammar.{Word, Rule, lexemes_of, ◌>>=◌, give, token, many, times}
 use Rattle.token_grammar.proofs.Laws.{input, Told, Same, gate, Exact, lexemes_of-two}
 use Rattle.token_grammar.proofs.OneToken.{never, a_token, same_kind_refl, exact_that, exact_token}
 use Rattle.token_grammar.proofs.Bind.{bind}
 use Rattle.token_grammar.proofs.Steps.{exact_same, exact_node}
-use Rattle.token_grammar.proofs.Loops.{Turn, exact_repeated, after}
+use Rattle.token_grammar.proofs.Loops.{Turn, exact_repeated}
 use Rattle.token_grammar.proofs.Starts.{sees_any, disjoint, Starts, starts_long, starts_that, starts_token, starts_bind, starts_or, starts_node, bind_starts, bind_give, then_that, choose_kind, choose_none, only_true, only_false, one_of_any, any_left, any_right}
 use Rattle.st_tree.specs.declared.tree.Identifier.{Identifier}
-use Rattle.st_tree.specs.declared.tree.Operator.{Operator}
 use Rattle.st_tree.specs.declared.tree.Operator.TheVariants.{Add, Subtract}
 use Rattle.st_tree.specs.declared.tree.Expr.{Expr}
 use Rattle.st_tree.specs.declared.tree.Expr.TheVariants as expr
 use Rattle.st_tree.specs.declared.tree.Stmt.{Stmt}
 use Rattle.st_tree.specs.declared.tree.Decl.{Decl}
-use Rattle.st_tree.specs.declared.tree.Section.{Section}
-use Rattle.st_tree.specs.declared.tree.Unit.{Unit as SourceUnit}
 use Rattle.st_tree.specs.Names.{Names, has, names_of, declared, declared_in}
 use Rattle.st_expr.specs.FirstForm as g
 use Rattle.st_expr.specs.FirstForm.{make_identifier, make_path, make_spec, make_decl, make_section, make_number, make_stmt, make_unit, literal, sum_of, is_new, is_known}

@@ -10,7 +10,7 @@ use Rattle.st_tree.specs.declared.tree.Identifier.{Identifier}
 use Rattle.st_tree.specs.declared.tree.Expr.{Expr}
 use Rattle.st_tree.specs.declared.tree.Stmt.{Stmt}
 use Rattle.st_tree.specs.declared.tree.Decl.{Decl}
-use Rattle.st_expr.specs.FirstForm.{make_identifier, make_path, make_spec, make_decl, make_section, make_number, make_stmt, make_unit, is_new, is_known, identifier_that, new_name, path, more_names, names_list, spec, decl, more_decls, section, sections, number, term, operator, more_terms, sum, stmt, more_stmts, program}
+use Rattle.st_expr.specs.FirstForm.{make_identifier, make_path, make_spec, make_decl, make_section, make_number, make_stmt, make_unit, is_new, is_known, new_name, path, more_names, decl, more_decls, section, number, term, more_terms, stmt, more_stmts, program}
 
 flat_kind : (k : TokenKind) → Flat (token k)
 flat_kind k = flat_that (is_kind k)

@@ -1,20 +1,19 @@
 -- What the parser answers of a whole text.
-use Rattle.std.proofs.Common.{◌≡◌, ◌≢◌, ℕ, List, [], ◌∷◌, ◌++◌, Result, Ok, Err, refl, sym, ap, subst, ◌∙◌}
+use Rattle.std.proofs.Common.{◌≡◌, ◌≢◌, ℕ, List, [], ◌++◌, Ok, Err, refl, sym, ap, subst, ◌∙◌}
 use Rattle.std.proofs.lemmas.List.{append-nil}
 use Rattle.token_grammar.specs.declared.fault.ParseError.{ParseError}
 use Rattle.token_grammar.specs.declared.fault.ParseError.TheVariants.{Memory, Grammar, TooDeep}
 use Rattle.token_grammar.specs.declared.token.Token.{Token}
 use Rattle.token_grammar.specs.Texts.{Lexeme, lexemes}
 use Rattle.token_grammar.specs.Input.{Input, Stop, Outcome}
-use Rattle.token_grammar.specs.Grammar.{Word, lexemes_of, Begins, Stops, Spells, IsLongest}
-use Rattle.token_grammar.proofs.Laws.{input, ends, Read, Refused, Reason}
+use Rattle.token_grammar.specs.Grammar.{Word, lexemes_of, Spells}
+use Rattle.token_grammar.proofs.Laws.{input, ends}
 use Rattle.token_grammar.proofs.Front.{reads, refuses, finds, one_value}
 use Rattle.token_grammar.proofs.Flat.{not_deep}
 use Rattle.st_tree.specs.declared.tree.Unit.{Unit as SourceUnit}
-use Rattle.st_tree.specs.declared.tree.SourceTree.{SourceTree}
 use Rattle.st_tree.specs.Bare.{bare_unit}
 use Rattle.st_expr.specs.Answers.{Refuses, fault_of}
-use Rattle.st_expr.specs.FirstForm.{program, IsTree, IsRefused, place_at}
+use Rattle.st_expr.specs.FirstForm.{program, IsRefused, place_at}
 use Rattle.st_expr.specs.Parse as p
 use Rattle.st_expr.proofs.Exactness.{exact_program}
 use Rattle.st_expr.proofs.Flat.{flat_program}

@@ -1,10 +1,9 @@
 -- A name is added to those that are known.
 use Rattle.std.proofs.Common.{◌≡◌, ℕ, Bool, true, false, cond, ◌||◌, List, [], ◌∷◌, ◌++◌, refl, sym, ap, ◌∙◌, arith}
-use Rattle.std.specs.Prelude.{bytes_eq, map}
+use Rattle.std.specs.Prelude.{bytes_eq}
 use Rattle.std.specs.List.{list_any}
 use Rattle.std.proofs.lemmas.Slice.Eq.{bytes_eq-Decides}
-use Rattle.st_tree.specs.declared.tree.Identifier.{Identifier}
-use Rattle.st_tree.specs.Names.{Names, has, names_of}
+use Rattle.st_tree.specs.Names.{Names, has}
 use Rattle.st_expr.specs.Parse.{Known, knows}
 
 bytes_eq_swap : (a b : List ℕ) → bytes_eq a b ≡ bytes_eq b a

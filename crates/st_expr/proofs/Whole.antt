@@ -1,15 +1,14 @@
 -- A program, part by part.
-use Rattle.std.proofs.Common.{◌≡◌, ℕ, Bool, true, false, cond, List, [], ◌∷◌, Result, Ok, Err, refl, sym, ap, ◌∙◌}
+use Rattle.std.proofs.Common.{◌≡◌, ℕ, Bool, true, false, List, [], ◌∷◌, Ok, Err, refl, sym, ap, ◌∙◌}
 use Rattle.std.specs.Prelude.{map}
 use Rattle.token_grammar.specs.declared.token.TokenKind.TheVariants.{Program, EndProgram, Name}
 use Rattle.token_grammar.specs.declared.fault.ParseError.TheVariants.{Grammar}
 use Rattle.token_grammar.specs.Texts.{Lexeme}
 use Rattle.token_grammar.specs.Kinds.{is_kind}
-use Rattle.token_grammar.specs.Input.{Input, Stop, Outcome, take, start, sees_that, sees_in}
+use Rattle.token_grammar.specs.Input.{Input, Stop, take, start, sees_that, sees_in}
 use Rattle.st_tree.specs.declared.tree.Identifier.{Identifier}
 use Rattle.st_tree.specs.declared.tree.Section.{Section}
 use Rattle.st_tree.specs.declared.tree.Stmt.{Stmt}
-use Rattle.st_tree.specs.declared.tree.Unit.{Unit as SourceUnit}
 use Rattle.st_tree.specs.Bare.{bare_section}
 use Rattle.st_tree.specs.Names.{declared_in}
 use Rattle.st_expr.specs.Ahead.{IsNameAhead}

@@ -1,5 +1,5 @@
 -- What is promised of an answer of the parser.
-use Rattle.std.specs.Prelude.{◌≡◌, ℕ, List, Result, Ok, Err}
+use Rattle.std.specs.Prelude.{ℕ, List, Result, Ok, Err}
 use Rattle.token_grammar.specs.declared.token.Token.{Token}
 use Rattle.token_grammar.specs.Texts.{lexemes}
 use Rattle.token_grammar.specs.Grammar.{Spells}

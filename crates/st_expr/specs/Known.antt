@@ -1,5 +1,4 @@
 -- Which names the code knows as declared.
-use Rattle.std.specs.Prelude.{ℕ, List}
 use Rattle.std.specs.BTreeSet.{contains_by}
 use Rattle.std.specs.Cmp.Lexicographic.{slice_cmp}
 use Rattle.std.specs.Ordering.{nat_cmp}

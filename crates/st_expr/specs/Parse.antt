@@ -16,7 +16,7 @@ use Rattle.st_tree.specs.declared.tree.Decl.{Decl}
 use Rattle.st_tree.specs.declared.tree.Section.{Section}
 use Rattle.st_tree.specs.declared.tree.Unit.{Unit as SourceUnit}
 use Rattle.st_tree.specs.Names.{Names, has, names_of, declared, declared_in}
-use Rattle.st_expr.specs.FirstForm.{make_identifier, make_path, make_spec, make_decl, make_section, literal, make_number, sum_of, make_stmt, Parts, make_unit, is_new, is_known}
+use Rattle.st_expr.specs.FirstForm.{make_identifier, make_path, make_spec, make_decl, make_section, literal, make_number, sum_of, make_stmt, make_unit, is_new, is_known}
 
 -- which names are declared
 abbrev pub Known : Type 0

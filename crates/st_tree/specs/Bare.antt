@@ -1,6 +1,6 @@
 -- A unit with each node's number set to 0: what is spelled, before the nodes are numbered. Source: this profile. The code numbers nodes as
 -- it reads.
-use Rattle.std.specs.Prelude.{ℕ, List, map}
+use Rattle.std.specs.Prelude.{ℕ, map}
 use Rattle.st_tree.specs.declared.node.Node.{Node}
 use Rattle.st_tree.specs.declared.tree.Identifier.{Identifier}
 use Rattle.st_tree.specs.declared.tree.Path.{Path}

@@ -1,5 +1,5 @@
 -- Whether a component's code writes the component's own cells alone. Source: this profile. No code of its own: linked code does.
-use Rattle.std.specs.Prelude.{◌≡◌, ◌<◌, ℕ, List, length, Some, slice_get}
+use Rattle.std.specs.Prelude.{◌≡◌, ◌<◌, ℕ, length, Some, slice_get}
 use Rattle.st_tree.specs.declared.code.Cell.TheVariants.{Own, Shared}
 use Rattle.st_tree.specs.declared.code.TaskCode.{TaskCode}
 use Rattle.st_tree.specs.declared.code.Component.{Component}

@@ -1,13 +1,11 @@
 -- What the parts of the analysis may rely on of a tree, and where a refusal stands.
-use Rattle.std.proofs.Common.{◌≡◌, ℕ, zero, ◌<◌, ◌≤◌, List, [], ◌∷◌, ◌++◌, length, refl, sym, ap, subst, ◌∙◌, arith}
+use Rattle.std.proofs.Common.{◌≡◌, ℕ, zero, ◌≤◌, List, [], ◌∷◌, ◌++◌, length, refl, ap, arith}
 use Rattle.std.specs.List.{Contains}
 use Rattle.token_grammar.specs.declared.token.Token.{Token}
-use Rattle.token_grammar.specs.declared.token.TokenKind.TheVariants.{Number}
-use Rattle.token_grammar.specs.Texts.{Lexeme, lexeme, lexemes, number_of}
-use Rattle.token_grammar.specs.Grammar.{IsLongest}
+use Rattle.token_grammar.specs.Texts.{Lexeme, lexeme, lexemes}
 use Rattle.st_lexer.specs.Placed.{IsIn, IsShort}
-use Rattle.st_expr.specs.FirstForm.{program, IsTree, IsRefused, place_at}
-use Rattle.st_expr.specs.Laws.{AreIn, AreShort, SoundTree}
+use Rattle.st_expr.specs.FirstForm.{IsTree, IsRefused, place_at}
+use Rattle.st_expr.specs.Laws.{AreIn, SoundTree}
 use Rattle.st_tree.specs.declared.tree.SourceTree.{SourceTree}
 use Rattle.station_cli.specs.Parsing.{IsAnalysable}
 use Rattle.cycle_analysis.proofs.Lists.{later_in}

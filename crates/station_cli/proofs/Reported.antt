@@ -1,13 +1,13 @@
 -- A text that is told determines how the call ends.
-use Rattle.std.proofs.Common.{◌≡◌, ◌⊎◌, ℕ, ◌<◌, ◌≤◌, Bool, true, false, List, length, Some, None, refl, sym, ap, subst, ◌∙◌, arith, inl, inr}
+use Rattle.std.proofs.Common.{◌≡◌, ℕ, ◌<◌, true, false, List, length, Some, None, refl, sym, ap, subst, ◌∙◌, arith, inl, inr}
 use Rattle.std.specs.Prelude.{Option}
 use Rattle.station_ports.specs.Views.{PortView}
-use Rattle.station_ports.specs.Calls.{Rose, IsContent, IsTooLong}
+use Rattle.station_ports.specs.Calls.{IsContent, IsTooLong}
 use Rattle.finding_spans.specs.declared.report.Report.{Report}
 use Rattle.station_cli.specs.Words.{Command, check, command_of}
 use Rattle.station_cli.specs.Report.{IsReport}
 use Rattle.station_cli.specs.OneReport.{OneReport, OneCourse}
-use Rattle.station_cli.specs.Run.{World, Course, misused, checked, too_long, unread, out_of_memory, Happens, verdict_status, status_of, is_settled, max_file, IsWork, IsWritten}
+use Rattle.station_cli.specs.Run.{World, Course, misused, checked, too_long, unread, out_of_memory, Happens, verdict_status, status_of, max_file, IsWork, IsWritten}
 use Rattle.station_cli.specs.Causes.{Ends, IsToldReported, EndsReported}
 use Rattle.station_cli.specs.declared.status.Status.{Status}
 use Rattle.station_cli.proofs.Complete.{ends, ended_so}
@@ -34,7 +34,6 @@ within_limit old contents name other content told same a b =
 
 module _ (one : OneReport) (asked : Option Command) (old new : World) (old_out new_out : PortView) (contents : List ℕ → Option (List ℕ)) (told : old.files.contents ≡ Some contents)
     (name text : List ℕ) (made : Report) (a : asked ≡ Some (check name)) (content : IsContent old.files name max_file text) (report : IsReport name text made) where
-
   same_report : (other found : List ℕ) (given : Report) → Some (check name) ≡ Some (check other) → IsContent old.files other max_file found → IsReport other found given → given ≡ made
   same_report other found given e read h =
       let names : other ≡ name = sym (same_name name other e) in

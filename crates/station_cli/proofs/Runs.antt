@@ -1,6 +1,6 @@
 -- The report that a text defines foretells each run of its program.
-use Rattle.std.proofs.Common.{◌≡◌, ℕ, zero, suc, ◌<◌, ◌≤◌, List, [], ◌∷◌, length, Some, None, refl, sym, ap, subst, ◌∙◌, arith, inl, inr}
-use Rattle.std.specs.Prelude.{ℤ, map, slice_get, Option}
+use Rattle.std.proofs.Common.{◌≡◌, ℕ, zero, suc, List, [], ◌∷◌, Some, refl, sym, ap, subst, ◌∙◌, arith, inl, inr}
+use Rattle.std.specs.Prelude.{ℤ, map, slice_get}
 use Rattle.std.specs.List.{Contains}
 use Rattle.iec_tables.specs.declared.kind.Kind.{Kind}
 use Rattle.interval_domain.specs.Interval.{Interval, Span, Holds, hull}
@@ -11,11 +11,10 @@ use Rattle.st_tree.specs.declared.tree.SourceTree.{SourceTree}
 use Rattle.st_tree.specs.declared.code.CellInfo.{CellInfo}
 use Rattle.st_tree.specs.declared.code.TaskCode.{TaskCode}
 use Rattle.st_tree.specs.declared.code.Component.{Component}
-use Rattle.st_tree.specs.Code.{Instructions, reading}
-use Rattle.task_config.specs.Plan.{IsComponent, unit_cells, body_code}
-use Rattle.task_meaning.specs.Meaning.{State, TaskState, Numbers, Move, Outcome, Continues, Faulty, start, run}
-use Rattle.cycle_analysis.specs.Pass.{Reached, Passed, Entry as Told, Wrote, Alarm as Alarmed, at, pass}
-use Rattle.cycle_analysis.specs.Table.{Part, part_at, others, pass_of, points, own_range, IsClosed, IsClosedFor, IsBelow, InPart, Each, IsAlarmed, InRanges, IsCovered, Theorem}
+use Rattle.task_config.specs.Plan.{IsComponent}
+use Rattle.task_meaning.specs.Meaning.{State, Move, Outcome, Continues, Faulty, start, run}
+use Rattle.cycle_analysis.specs.Pass.{Passed, Entry as Told, Wrote, Alarm as Alarmed, at}
+use Rattle.cycle_analysis.specs.Table.{Part, part_at, pass_of, points, own_range, IsAlarmed, InRanges, IsCovered, Theorem}
 use Rattle.cycle_analysis.proofs.Lists.{later_in}
 use Rattle.cycle_analysis.proofs.OneTable.{AreAlike, alike_back, same_pass, closed_too}
 use Rattle.cycle_analysis.proofs.Intervals.{within_holds}
@@ -23,8 +22,8 @@ use Rattle.finding_spans.specs.declared.report.Alarm.{Alarm}
 use Rattle.finding_spans.specs.declared.report.Entry.{Entry}
 use Rattle.finding_spans.specs.declared.report.RangeLine.{RangeLine}
 use Rattle.finding_spans.specs.declared.report.Report.{Report}
-use Rattle.station_cli.specs.Report.{IsTold, IsHull, IsAlarm, AreAlarms, AreRanges, IsReportOf}
-use Rattle.station_cli.specs.Headline.{InLine, InLines, AtAlarm, IsForetold}
+use Rattle.station_cli.specs.Report.{AreAlarms, AreRanges, IsReportOf}
+use Rattle.station_cli.specs.Headline.{InLines, AtAlarm, IsForetold}
 use Rattle.station_cli.proofs.OneReport.{alike}
 
 some_is : {A : Type 0} (x y : A) → Some x ≡ Some y → x ≡ y
@@ -97,9 +96,10 @@ module _ (name text : List ℕ) (tree : SourceTree) (made : Report) (r : IsRepor
       let (t, there, alarmed) = h.1 in
       let one = only_one task t me (sym (ap (λ (tasks : List TaskCode). slice_get tasks me) a.second) ∙ there) in
       let same : pass_of t r.table me ≡ pass_of r.task r.table 0 =
-          ap (λ (u : TaskCode). pass_of u r.table me) (sym one.1) ∙ ap (pass_of task r.table) one.0 ∙ sym (same_pass r.task task r.table 0 a.code) in
-      (in_lines component task r.table made.ranges state a.second lines_too h.0,
-       at_alarm name text tree r.unit (pass_of r.task r.table 0).log made.alarms kind site value r.alarms (subst (λ (p : Passed). IsAlarmed p.log kind site value) same alarmed))
+      ap (λ (u : TaskCode). pass_of u r.table me) (sym one.1) ∙ ap (pass_of task r.table) one.0 ∙ sym (same_pass r.task task r.table 0 a.code) in (
+        in_lines component task r.table made.ranges state a.second lines_too h.0,
+        at_alarm name text tree r.unit (pass_of r.task r.table 0).log made.alarms kind site value r.alarms (subst (λ (p : Passed). IsAlarmed p.log kind site value) same alarmed),
+      )
 
 pub foretold : Theorem → (name text : List ℕ) (tree : SourceTree) (made : Report) (r : IsReportOf name text tree made) (component : Component) → IsComponent r.unit component → (moves : List Move) → IsForetold component made (run component moves (start component))
 foretold law name text tree made r component planned moves =

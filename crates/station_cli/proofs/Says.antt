@@ -11,7 +11,6 @@ use Rattle.station_ports.specs.Calls.{Puts, IsContent}
 use Rattle.station_ports.specs.declared.outside.PutRefusal.{PutRefusal}
 use Rattle.station_ports.specs.declared.outside.PutRefusal.TheVariants as refusal
 use Rattle.token_grammar.specs.declared.token.Token.{Token}
-use Rattle.st_lexer.specs.Cut.{IsCut}
 use Rattle.st_tree.specs.declared.tree.Unit.{Unit as SourceUnit}
 use Rattle.st_tree.specs.declared.code.Component.{Component}
 use Rattle.st_expr.specs.FirstForm.{IsTree}
@@ -29,7 +28,7 @@ use Rattle.finding_spans.specs.declared.report.Verdict.TheVariants as verdict
 use Rattle.report_text.specs.Text.{verdict_line, alarm_line, range_line, end_line, text_of}
 use Rattle.finding_spans.specs.declared.report.Refusal.{Refusal}
 use Rattle.station_cli.specs.Words.{Command, check, command_of}
-use Rattle.station_cli.specs.Report.{IsReport, IsAnalysed, IsRefusal}
+use Rattle.station_cli.specs.Report.{IsReport, IsAnalysed}
 use Rattle.station_cli.specs.Reports.{Fits}
 use Rattle.station_cli.specs.Run.{World, Course, misused, checked, too_long, unread, out_of_memory, Happens, max_file, IsWork, IsWritten}
 use Rattle.station_cli.specs.Run as runs

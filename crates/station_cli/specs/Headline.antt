@@ -1,6 +1,6 @@
 -- What a report that was put says of the runs of the program: the promise of this product. The code has no part for it; it follows from the
 -- report that the text defines and from the theorem over all runs of the analysis. Source: this profile.
-use Rattle.std.specs.Prelude.{◌≡◌, ℕ, ◌++◌, List, [], ◌∷◌, Option, Some, codes, take, slice_get, ℤ}
+use Rattle.std.specs.Prelude.{◌≡◌, ℕ, ◌++◌, List, [], ◌∷◌, Some, codes, take, slice_get, ℤ}
 use Rattle.std.specs.List.{Contains}
 use Rattle.iec_tables.specs.declared.kind.Kind.{Kind}
 use Rattle.interval_domain.specs.Interval.{Span, Holds}

@@ -1,11 +1,10 @@
 -- What a component does when it runs: the steps of its tasks, their faults, and its runs. Source: the execution of programs under tasks in
 -- the standard, with single sequentially consistent accesses; this profile for the checks. No code runs a step.
-use Rattle.std.specs.Prelude.{◌≡◌, ℕ, List, [], ◌∷◌, map, Option, Some, None, if◌then◌else◌, slice_get, slice_set, ℤ}
+use Rattle.std.specs.Prelude.{ℕ, List, [], ◌∷◌, map, Option, Some, None, if◌then◌else◌, slice_get, slice_set, ℤ}
 use Rattle.iec_tables.specs.declared.kind.Kind.{Kind}
 use Rattle.iec_tables.specs.declared.kind.Kind.TheVariants.{Overflow}
 use Rattle.interval_domain.specs.Interval.{holds}
 use Rattle.interval_domain.specs.Operators.{range_of, sum_of, difference_of}
-use Rattle.st_tree.specs.declared.code.Cell.{Cell}
 use Rattle.st_tree.specs.declared.code.Cell.TheVariants.{Own, Shared}
 use Rattle.st_tree.specs.declared.code.Operation.{Operation}
 use Rattle.st_tree.specs.declared.code.CellInfo.{CellInfo}

@@ -1,12 +1,11 @@
 -- One rule after another.
-use Rattle.std.proofs.Common.{◌≡◌, ℕ, zero, suc, ◌+◌, ◌<◌, ◌≤◌, Bool, true, false, cond, ltb, List, [], ◌∷◌, ◌++◌, length, Result, Ok, Err, refl, sym, ap, subst, ◌∙◌, append_assoc, arith, inl, inr, ◌⊎◌}
+use Rattle.std.proofs.Common.{◌≡◌, ℕ, Bool, true, false, cond, ltb, List, [], ◌∷◌, ◌++◌, Ok, Err, refl, sym, ap, subst, ◌∙◌, append_assoc}
 use Rattle.std.proofs.lemmas.Bool.{ltb-false}
-use Rattle.std.proofs.lemmas.List.{append_cancel_right}
 use Rattle.token_grammar.specs.Texts.{Lexeme}
 use Rattle.token_grammar.specs.declared.fault.ParseError.TheVariants.{TooDeep}
-use Rattle.token_grammar.specs.Input.{Input, Stop, Outcome, Parser, and_then}
+use Rattle.token_grammar.specs.Input.{Input, Outcome, Parser, and_then}
 use Rattle.token_grammar.specs.Grammar.{Word, Rule, lexemes_of, Within, max_depth, ◌>>=◌}
-use Rattle.token_grammar.proofs.Laws.{input, ends, Read, Refused, Told, gate, Same, Some_, Exact, lexemes_of-append, lexemes_of-two, Within-append, ends-append, Reason-append}
+use Rattle.token_grammar.proofs.Laws.{input, ends, Read, Told, gate, Same, Some_, Exact, lexemes_of-two, Within-append, ends-append, Reason-append}
 
 -- ---- what is told
 

@@ -1,7 +1,7 @@
 -- Rules that never nest: each lexeme stands at the depth at which the rule begins.
-use Rattle.std.proofs.Common.{◌≡◌, ℕ, zero, suc, ◌+◌, ◌<◌, ◌≤◌, Bool, List, [], ◌∷◌, ◌++◌, refl, sym, ap, subst, ◌∙◌, arith, inl, inr, ◌⊎◌}
+use Rattle.std.proofs.Common.{◌≡◌, ℕ, zero, suc, ◌+◌, Bool, List, [], ◌∷◌, ◌++◌, subst, ◌∙◌, arith, inl, inr}
 use Rattle.token_grammar.specs.Texts.{Lexeme}
-use Rattle.token_grammar.specs.Grammar.{Word, Rule, give, token_as, token_that, ◌>>=◌, ◌or◌, times, many, node, max_depth}
+use Rattle.token_grammar.specs.Grammar.{Word, Rule, give, token_that, ◌>>=◌, ◌or◌, times, many, node}
 use Rattle.token_grammar.proofs.Laws.{Deep}
 
 abbrev pub AllAt : ℕ → Word → Type 0

@@ -1,13 +1,12 @@
 -- What the laws say of an answer: the front, and that there is no other.
-use Rattle.std.proofs.Common.{◌≡◌, ℕ, zero, suc, ◌+◌, ◌<◌, ◌≤◌, Bool, true, false, cond, ltb, eqb, List, [], ◌∷◌, ◌++◌, length, Result, Ok, Err, refl, sym, ap, subst, ◌∙◌, append_assoc, arith, inl, inr, ◌⊎◌}
-use Rattle.std.proofs.lemmas.Bool.{ltb-false, ltb-true, le-ltb}
+use Rattle.std.proofs.Common.{◌≡◌, ℕ, Bool, true, false, cond, ltb, List, [], ◌∷◌, ◌++◌, Ok, Err, refl, sym, ap, subst, ◌∙◌, append_assoc}
+use Rattle.std.proofs.lemmas.Bool.{le-ltb}
 use Rattle.std.proofs.lemmas.List.{append-nil}
 use Rattle.token_grammar.specs.Texts.{Lexeme}
-use Rattle.token_grammar.specs.declared.fault.ParseError.{ParseError}
-use Rattle.token_grammar.specs.declared.fault.ParseError.TheVariants.{Memory, Grammar, TooDeep}
+use Rattle.token_grammar.specs.declared.fault.ParseError.TheVariants.{Grammar, TooDeep}
 use Rattle.token_grammar.specs.Input.{Input, Stop, Outcome, Parser}
 use Rattle.token_grammar.specs.Grammar.{Word, Rule, lexemes_of, Within, Begins, Stops, max_depth}
-use Rattle.token_grammar.proofs.Laws.{input, ends, Read, Refused, Told, gate, Same, Some_, Exact, lexemes_of-append, lexemes_of-two}
+use Rattle.token_grammar.proofs.Laws.{input, ends, Read, Refused, Told, gate, Same, Exact, lexemes_of-append}
 
 abbrev ok_of : {A : Type 0} → A × Input → Outcome A
 ok_of p = Ok p

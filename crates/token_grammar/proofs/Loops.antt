@@ -1,10 +1,10 @@
 -- Any number of times.
-use Rattle.std.proofs.Common.{◌≡◌, ℕ, zero, suc, ◌+◌, ◌<◌, ◌≤◌, Bool, true, false, cond, ltb, eqb, List, [], ◌∷◌, ◌++◌, length, Result, Ok, Err, refl, sym, ap, subst, ◌∙◌, append_assoc, arith, inl, inr, ◌⊎◌}
+use Rattle.std.proofs.Common.{◌≡◌, ℕ, zero, suc, ◌+◌, ◌<◌, ◌≤◌, Bool, true, false, List, [], ◌∷◌, ◌++◌, length, Ok, Err, refl, sym, ap, ◌∙◌, append_assoc, arith}
 use Rattle.std.proofs.lemmas.List.{append_cancel_right, length-append, append-nil}
 use Rattle.token_grammar.specs.Texts.{Lexeme}
-use Rattle.token_grammar.specs.Input.{Input, Stop, Outcome, Parser, and_then, loop_by, loop, repeated}
+use Rattle.token_grammar.specs.Input.{Input, Outcome, Parser, and_then, loop_by, loop, repeated}
 use Rattle.token_grammar.specs.Grammar.{Word, Rule, lexemes_of, Within, times, many}
-use Rattle.token_grammar.proofs.Laws.{input, ends, Read, Refused, Told, gate, Same, Some_, Exact, lexemes_of-append, lexemes_of-two, Within-append, ends-append, Reason-append}
+use Rattle.token_grammar.proofs.Laws.{input, ends, Read, Told, gate, Same, Exact, lexemes_of-two, Within-append, ends-append}
 use Rattle.token_grammar.proofs.Bind.{gate-append, local_bind}
 use Rattle.token_grammar.proofs.Steps.{IsOfOne, one_of_both}
 

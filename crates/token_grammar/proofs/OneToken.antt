@@ -1,14 +1,14 @@
 -- One lexeme.
-use Rattle.std.proofs.Common.{◌≡◌, ℕ, zero, suc, ◌+◌, ◌<◌, ◌≤◌, Bool, true, false, cond, ltb, List, [], ◌∷◌, ◌++◌, length, Result, Ok, Err, refl, sym, ap, append_assoc, arith}
+use Rattle.std.proofs.Common.{◌≡◌, ℕ, ◌+◌, Bool, true, false, cond, ltb, List, [], ◌∷◌, ◌++◌, length, Ok, Err, refl, ap, arith}
 use Rattle.std.proofs.lemmas.Bool.{ltb-false, ltb-true, eq-eqb}
 use Rattle.std.proofs.lemmas.List.{append_cancel_right, length-append}
 use Rattle.token_grammar.specs.declared.token.TokenKind.{TokenKind}
 use Rattle.token_grammar.specs.Texts.{Lexeme}
 use Rattle.token_grammar.specs.Kinds.{place_of, same_kind, is_kind}
 use Rattle.token_grammar.specs.declared.fault.ParseError.TheVariants.{Grammar, TooDeep}
-use Rattle.token_grammar.specs.Input.{Input, Stop, Outcome, Parser, take_in, take_as}
-use Rattle.token_grammar.specs.Grammar.{Word, Rule, lexemes_of, Within, max_depth, token_as}
-use Rattle.token_grammar.proofs.Laws.{input, ends, Read, Refused, Told, gate, Same, Some_, Exact}
+use Rattle.token_grammar.specs.Input.{Input, take_in, take_as}
+use Rattle.token_grammar.specs.Grammar.{Word, lexemes_of, max_depth, token_as}
+use Rattle.token_grammar.proofs.Laws.{input, Told, gate, Same, Exact}
 
 abbrev pub never : List Lexeme → Bool
 never ts = false

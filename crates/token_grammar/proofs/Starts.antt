@@ -1,10 +1,10 @@
 -- With which kinds of token a rule begins, and where it may go on.
-use Rattle.std.proofs.Common.{◌≡◌, ℕ, zero, suc, ◌+◌, ◌<◌, ◌≤◌, Bool, true, false, cond, ltb, eqb, List, [], ◌∷◌, ◌++◌, length, Result, Ok, Err, refl, sym, ap, subst, ◌∙◌, append_assoc, arith, inl, inr, ◌⊎◌}
+use Rattle.std.proofs.Common.{◌≡◌, ℕ, ◌+◌, ◌≤◌, Bool, true, false, cond, eqb, List, [], ◌∷◌, ◌++◌, refl, sym, ap, subst, ◌∙◌, arith, inl, inr, ◌⊎◌}
 use Rattle.std.proofs.lemmas.Bool.{eqb-true}
 use Rattle.token_grammar.specs.declared.token.TokenKind.{TokenKind}
 use Rattle.token_grammar.specs.Texts.{Lexeme}
 use Rattle.token_grammar.specs.Kinds.{place_of, same_kind, is_kind}
-use Rattle.token_grammar.specs.Input.{Input, Outcome, Parser, and_then, pure, sees_in, take_as, choose}
+use Rattle.token_grammar.specs.Input.{Parser, and_then, pure, sees_in, take_as, choose}
 use Rattle.token_grammar.specs.Grammar.{Word, Rule, lexemes_of, Within, max_depth, ◌>>=◌, ◌or◌, give, token_as, node}
 use Rattle.token_grammar.proofs.Laws.{Exact, lexemes_of-two}
 use Rattle.token_grammar.proofs.OneToken.{never, exact_that}

@@ -1,13 +1,10 @@
 -- No token, either of two rules, and values with their places.
-use Rattle.std.proofs.Common.{◌≡◌, ℕ, zero, suc, ◌+◌, ◌<◌, ◌≤◌, Bool, true, false, cond, ltb, eqb, List, [], ◌∷◌, ◌++◌, length, Result, Ok, Err, refl, sym, ap, subst, ◌∙◌, append_assoc, arith, inl, inr, ◌⊎◌}
-use Rattle.std.proofs.lemmas.Bool.{ltb-false, ltb-true, eq-eqb}
-use Rattle.std.proofs.lemmas.List.{append_cancel_right, length-append}
-use Rattle.token_grammar.specs.declared.token.TokenKind.{TokenKind}
+use Rattle.std.proofs.Common.{◌≡◌, ℕ, ◌<◌, Bool, true, false, cond, ltb, List, [], ◌∷◌, ◌++◌, length, Ok, Err, refl, ap, ◌∙◌, arith, inl, inr}
+use Rattle.std.proofs.lemmas.List.{append_cancel_right}
 use Rattle.token_grammar.specs.Texts.{Lexeme}
 use Rattle.token_grammar.specs.Input.{Input, Stop, Outcome, Parser, pure, start, start_in, choose, node as node_of, with_place}
-use Rattle.token_grammar.specs.Grammar.{Word, Rule, lexemes_of, Within, max_depth, give, ◌or◌, node, start_of, end_of}
-use Rattle.token_grammar.proofs.Laws.{input, ends, Read, Refused, Told, gate, Same, Some_, Exact}
-use Rattle.token_grammar.proofs.OneToken.{never}
+use Rattle.token_grammar.specs.Grammar.{Word, Rule, lexemes_of, give, ◌or◌, node, start_of, end_of}
+use Rattle.token_grammar.proofs.Laws.{input, ends, Told, gate, Same, Exact}
 
 pub exact_give : {A : Type 0} {V : ℕ → Type 0} {more : List Lexeme → Bool} (a : A) → Exact V (pure a) (give a) more
 exact_give a = record {

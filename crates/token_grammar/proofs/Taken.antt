@@ -1,9 +1,8 @@
 -- What stood next where a lexeme was taken.
-use Rattle.std.proofs.Common.{◌≡◌, ℕ, Bool, true, false, cond, ltb, List, [], ◌∷◌, Result, Ok, Err, refl, sym, ap, ◌∙◌}
+use Rattle.std.proofs.Common.{◌≡◌, ℕ, Bool, true, false, cond, List, [], ◌∷◌, Ok, Err, refl, sym, ap, ◌∙◌}
 use Rattle.token_grammar.specs.Texts.{Lexeme}
 use Rattle.token_grammar.specs.declared.fault.ParseError.TheVariants.{Grammar, TooDeep}
-use Rattle.token_grammar.specs.Grammar.{max_depth}
-use Rattle.token_grammar.specs.Input.{Input, Stop, Outcome, take_in, take_as, take_that, sees_that}
+use Rattle.token_grammar.specs.Input.{Input, Outcome, take_in, take_that}
 
 -- it passed the test, and the others are left
 pub record IsTaken (test : Lexeme → Bool) (before : List Lexeme) (l : Lexeme) (after : List Lexeme) : Type 0 where

@@ -1,6 +1,6 @@
 -- A grammar: which lexemes, at which depths, spell which value. A rule reads like a line of the textual grammar of the standard. The
 -- code descends with a token of look-ahead.
-use Rattle.std.specs.Prelude.{◌≡◌, ◌⊎◌, ℕ, zero, suc, ◌+◌, ◌≤◌, ◌<◌, Bool, true, false, List, [], ◌∷◌, ◌++◌}
+use Rattle.std.specs.Prelude.{◌≡◌, ◌⊎◌, ℕ, zero, suc, ◌+◌, ◌≤◌, Bool, true, List, [], ◌∷◌, ◌++◌}
 use Rattle.token_grammar.specs.declared.token.TokenKind.{TokenKind}
 use Rattle.token_grammar.specs.Texts.{Lexeme}
 use Rattle.token_grammar.specs.Kinds.{is_kind}

@@ -1,6 +1,6 @@
 -- What a parser reads from, and the steps that every rule is made of: the grammar once more as functions, which answer a value and what is
 -- left, or a place. A step on the way from the code to the grammar.
-use Rattle.std.specs.Prelude.{◌≡◌, ◌≢◌, ℕ, zero, suc, ◌+◌, Bool, true, false, if◌then◌else◌, nat_lt, List, [], ◌∷◌, ◌++◌, length, Result, Ok, Err}
+use Rattle.std.specs.Prelude.{◌≡◌, ◌≢◌, ℕ, zero, suc, ◌+◌, Bool, true, false, if◌then◌else◌, nat_lt, List, [], ◌∷◌, length, Result, Ok, Err}
 use Rattle.token_grammar.specs.declared.token.TokenKind.{TokenKind}
 use Rattle.token_grammar.specs.declared.cursor.Cursor.{Cursor}
 use Rattle.token_grammar.specs.declared.fault.ParseError.{ParseError}

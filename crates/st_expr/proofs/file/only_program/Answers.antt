@@ -1,4 +1,4 @@
-use Rattle.std.proofs.Common.{◌≡◌, ◌≢◌, ℕ, List, [], ◌∷◌, Ok, Err, true, false, length, rules, refl, sym, ap, subst, ◌∙◌, arith}
+use Rattle.std.proofs.Common.{◌≡◌, ◌≢◌, ℕ, List, [], ◌∷◌, Ok, Err, refl, ap, subst, arith}
 use Rattle.std.proofs.lemmas.Grind.{common_steps}
 use Rattle.token_grammar.specs.declared.fault.ParseError.TheVariants.{Memory}
 use Rattle.token_grammar.specs.declared.token.Token.{Token}
@@ -7,7 +7,6 @@ use Rattle.token_grammar.specs.Input.{Input, view}
 use Rattle.token_grammar.proofs.Laws.{input}
 use Rattle.st_tree.specs.Bare.{bare_unit}
 use Rattle.st_tree.specs.Nodes.{CountsFrom, unit_nodes}
-use Rattle.st_expr.specs.Answers.{Refuses}
 use Rattle.st_expr.specs.FirstForm.{place_at}
 use Rattle.st_expr.specs.Parse as p
 use Rattle.st_expr.proofs.Found.{all_spelled, left_over, refused}

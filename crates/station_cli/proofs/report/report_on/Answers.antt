@@ -1,10 +1,9 @@
-use Rattle.std.proofs.Common.{◌≡◌, ℕ, List, Ok, Err, IfOk, length, inl, inr, ap, subst, rules, arith}
+use Rattle.std.proofs.Common.{ℕ, List, Ok, Err, IfOk, length, inl, ap, subst}
 use Rattle.std.specs.Prelude.{Result}
-use Rattle.std.proofs.lemmas.Grind.{common_steps}
 use Rattle.station_ports.specs.declared.outside.NoMemory.{NoMemory}
 use Rattle.st_tree.specs.declared.tree.SourceTree.{SourceTree}
 use Rattle.finding_spans.specs.declared.report.Report.{Report}
-use Rattle.station_cli.specs.declared.report.Parsed.TheVariants.{Tree, Fault}
+use Rattle.station_cli.specs.declared.report.Parsed.TheVariants.{Tree}
 use Rattle.station_cli.specs.Report.{IsReport, IsReportOf}
 use Rattle.station_cli.specs.Parsing.{IsAnalysable, IsParsedText}
 use Rattle.station_cli.proofs.report.report_on.Goals as goal

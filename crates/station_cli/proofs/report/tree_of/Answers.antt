@@ -1,11 +1,10 @@
-use Rattle.std.proofs.Common.{◌≡◌, ℕ, List, ◌≤◌, length, refl, sym, ap, subst, ◌∙◌}
+use Rattle.std.proofs.Common.{◌≡◌, ℕ, List, refl, subst, ◌∙◌}
 use Rattle.std.specs.List.{Contains}
 use Rattle.token_grammar.specs.declared.token.Token.{Token}
 use Rattle.st_lexer.specs.Cut.{IsCut}
 use Rattle.st_lexer.specs.Placed.{IsIn, IsShort}
 use Rattle.st_tree.specs.declared.fault.FaultCode.{FaultCode}
 use Rattle.st_tree.specs.declared.fault.FaultCode.TheVariants.{NotBuilt}
-use Rattle.st_tree.specs.declared.tree.SourceTree.{SourceTree}
 use Rattle.st_expr.specs.FirstForm.{IsTree, IsRefused}
 use Rattle.st_expr.specs.Answers.{Refuses}
 use Rattle.st_expr.specs.declared.file.ParseFault.TheVariants.{At}

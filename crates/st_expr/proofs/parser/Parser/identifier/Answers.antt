@@ -1,7 +1,6 @@
-use Rattle.std.proofs.Common.{◌≡◌, List, true, false, sym, ap, ◌∙◌, rules, arith}
-use Rattle.std.proofs.lemmas.Grind.{common_steps}
+use Rattle.std.proofs.Common.{false, sym, ap, ◌∙◌}
 use Rattle.token_grammar.specs.declared.token.TokenKind.TheVariants.{Name}
-use Rattle.token_grammar.specs.Texts.{Lexeme, lexeme}
+use Rattle.token_grammar.specs.Texts.{lexeme}
 use Rattle.token_grammar.specs.Kinds.{is_kind}
 use Rattle.token_grammar.specs.Input.{view}
 use Rattle.token_grammar.proofs.Taken.{taken}

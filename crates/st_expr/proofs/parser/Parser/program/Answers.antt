@@ -1,16 +1,13 @@
-use Rattle.std.proofs.Common.{◌≡◌, ◌≢◌, ℕ, List, [], ◌∷◌, ◌++◌, Ok, Err, true, false, rules, sym, ap, subst, ◌∙◌, arith}
+use Rattle.std.proofs.Common.{◌≡◌, ◌≢◌, [], ◌∷◌, ◌++◌, Ok, Err, rules, sym, ap, subst, ◌∙◌, arith}
 use Rattle.std.specs.Prelude.{map, flat_map}
 use Rattle.std.proofs.lemmas.Grind.{common_steps}
-use Rattle.token_grammar.specs.declared.fault.ParseError.TheVariants.{Memory, Grammar}
+use Rattle.token_grammar.specs.declared.fault.ParseError.TheVariants.{Memory}
 use Rattle.token_grammar.specs.declared.token.TokenKind.TheVariants.{Name}
 use Rattle.token_grammar.specs.Kinds.{is_kind}
-use Rattle.token_grammar.specs.Input.{Input, Stop, Outcome, view}
-use Rattle.st_tree.specs.declared.tree.Unit.{Unit as SourceUnit}
+use Rattle.token_grammar.specs.Input.{Input, view}
 use Rattle.st_tree.specs.Bare.{bare_section, bare_stmt}
-use Rattle.st_tree.specs.Names.{declared_in}
 use Rattle.st_tree.specs.Nodes.{section_nodes, stmt_nodes}
-use Rattle.st_expr.specs.Known.{known_in}
-use Rattle.st_expr.specs.Parse.{Known, none, knows, sections, stmts, program}
+use Rattle.st_expr.specs.Parse.{Known, sections, stmts, program}
 use Rattle.st_expr.proofs.Whole.{identifier_refused, ahead_sees, name_refused, body_refused, end_refused, program_read, known_after}
 use Rattle.st_expr.proofs.Counting.{counts_cons, counts_append}
 use Rattle.st_expr.proofs.parser.Parser.program.Goals as goal
