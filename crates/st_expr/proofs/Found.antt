@@ -80,5 +80,5 @@ no_depth ls rest e =
 pub refused : (text : List ℕ) (tokens : List Token) (code : ParseError) (rest : List Lexeme) → (code ≢ Memory → p.program (input 0 0 (lexemes text tokens)) ≡ Err (record { code = code; rest = rest }))
     → Refuses text tokens (fault_of code (place_at text rest))
 refused text tokens Memory rest e = tt
-refused text tokens Grammar rest e = stopped text tokens rest (place_at text rest) (e (λ is. cc)) refl
+refused text tokens Grammar rest e = (refl, stopped text tokens rest (place_at text rest) (e (λ is. cc)) refl)
 refused text tokens TooDeep rest e = absurd (no_depth (lexemes text tokens) rest (e (λ is. cc)))

@@ -1,5 +1,5 @@
 -- What is promised of an answer of the parser.
-use Rattle.std.specs.Prelude.{ℕ, List, Result, Ok, Err}
+use Rattle.std.specs.Prelude.{◌≡◌, ℕ, List, Result, Ok, Err}
 use Rattle.token_grammar.specs.declared.token.Token.{Token}
 use Rattle.token_grammar.specs.Texts.{lexemes}
 use Rattle.token_grammar.specs.Grammar.{Spells}
@@ -21,7 +21,7 @@ fault_of error.Grammar at = At NotBuilt at
 fault_of error.TooDeep at = At NotBuilt at
 
 abbrev pub Refuses : List ℕ → List Token → ParseFault → Type 0
-Refuses text tokens (At code at) = IsRefused text tokens at
+Refuses text tokens (At code at) = (code ≡ NotBuilt) × IsRefused text tokens at
 Refuses text tokens NoMemory = Unit {0}
 
 -- The tree that the tokens spell, or a refusal where they spell none.

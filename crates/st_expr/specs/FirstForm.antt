@@ -9,7 +9,7 @@
 --     path    = name
 --
 -- A name is declared once, and a path names a declared variable. A minus before a number is part of the literal. Sums group to the
--- left. The code reads the tokens once and numbers the nodes as it goes.
+-- left. The code reads from left to right, with a look ahead at the operators of a sum, and numbers the nodes as it goes.
 use Rattle.std.specs.Prelude.{◌≡◌, ℕ, ◌-◌, ◌^◌, min, ◌&&◌, Bool, true, false, not, List, [], ◌∷◌, ◌++◌, length}
 use Rattle.iec_tables.specs.declared.elem.Elem.TheVariants as elem
 use Rattle.token_grammar.specs.declared.token.TokenKind.TheVariants.{Program, EndProgram, Var, EndVar, Int, Name, Number, Becomes, Colon, Comma, Semicolon, Plus, Minus}
@@ -53,7 +53,7 @@ make_decl start end p = record { node = node_at start end; names = p.0; spec = p
 abbrev pub make_section : ℕ → ℕ → List Decl → Section
 make_section start end ds = record { node = node_at start end; decls = ds }
 
--- a number of the tree, which no number of a text exceeds
+-- a number of the tree: a size is kept at 2^128 - 1
 abbrev pub kept : ℕ → ℕ
 kept size = min size (2 ^ 128 - 1)
 

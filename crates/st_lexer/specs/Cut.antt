@@ -1,5 +1,5 @@
 -- The one cut of a text into the tokens of the first form. Source: the lexical elements of the standard; what is no token of the first
--- form is foreign. The code reads the bytes once from left to right.
+-- form is foreign. The code reads the bytes from left to right, a word more than once.
 use Rattle.std.specs.Prelude.{◌≡◌, ◌⊎◌, ℕ, ◌+◌, ◌≤◌, ◌<◌, Bool, true, false, not, ◌&&◌, ◌||◌, nat_eq, bytes_eq, List, [], ◌∷◌, ◌++◌, length, map, codes, Option, Some, None}
 use Rattle.std.specs.List.{list_all, list_any}
 use Rattle.iec_tables.specs.Letters.{raised}

@@ -48,7 +48,7 @@ pub fn tokens<'t>(alloc: Global, text: &'t [u8]) -> Result<Tokens<'t>, LexFault>
     Ok(Tokens { text, list })
 }
 
-/// A text has one cut.
+/// A text has one cut at most.
 pub fn one_cut()
     ensures { (text : List ℕ) (xs ys : List Token) → IsCut text xs → IsCut text ys → xs ≡ ys }
 {}

@@ -88,11 +88,11 @@ not_within contents name other content text asked there holds above within =
     omega (arith, ap length long)
 
 above_of : (asked : Option Command) (old new : World) (old_out new_out : PortView) (contents : List ℕ → Option (List ℕ)) (name content : List ℕ) (course : Course) (status ended : Status) (text : List ℕ) → asked ≡ Some (check name) → old.files.contents ≡ Some contents → contents name ≡ Some content → max_file < length content → Happens asked old new course → status ≡ status_of course → IsWritten old_out new_out status text ended → EndsTooLong old new old_out new_out ended
-above_of asked old new old_out new_out contents name content misused status ended text a told there above h e put = cc
+above_of asked old new old_out new_out contents name content misused status ended text a told there above h e put = let clash : Some (check name) ≡ None = sym a ∙ h.0 in cc
 above_of asked old new old_out new_out contents name content (checked other found made) status ended text a told there above h e put =
     absurd (not_within contents name other content found (sym a ∙ h.0) there (rw told at h.1.holds) above h.1.within)
 above_of asked old new old_out new_out contents name content (too_long other) status ended text a told there above h e put = inl (rw e at (ends put))
-above_of asked old new old_out new_out contents name content (unread other) status ended text a told there above h e put = inr h.1
+above_of asked old new old_out new_out contents name content (unread other) status ended text a told there above h e put = inr (h.1, rw e at (ends put))
 above_of asked old new old_out new_out contents name content out_of_memory status ended text a told there above h e put = inl (inr (inr (ended_so ended put.answer (rw e at put.status_is))))
 
 pub above_ends : (words : List (List ℕ)) {old new : World} {status ended : Status} {text : List ℕ} {old_out new_out : PortView} → IsWork (command_of words) old new status text → IsWritten old_out new_out status text ended → IsToldAbove words old → EndsTooLong old new old_out new_out ended

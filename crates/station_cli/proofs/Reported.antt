@@ -41,12 +41,12 @@ module _ (one : OneReport) (asked : Option Command) (old new : World) (old_out n
       one name text given made (subst (λ (n : List ℕ). IsReport n text given) names (subst (λ (t : List ℕ). IsReport other t given) texts h)) report
 
   ends_reported : (course : Course) (status ended : Status) (line : List ℕ) → Happens asked old new course → status ≡ status_of course → IsWritten old_out new_out status line ended → EndsReported old new old_out new_out (verdict_status made.verdict) ended
-  ends_reported misused status ended line h e put = let clash : Some (check name) ≡ None = sym a ∙ h in cc
+  ends_reported misused status ended line h e put = let clash : Some (check name) ≡ None = sym a ∙ h.0 in cc
   ends_reported (checked other found given) status ended line h e put =
       let same = same_report other found given (sym a ∙ h.0) h.1 h.2 in
       inl (subst (λ (s : Status). Ends s old_out new_out ended) (e ∙ ap (λ (r : Report). verdict_status r.verdict) same) (ends put))
   ends_reported (too_long other) status ended line h e put = absurd (within_limit old contents name other text told (same_name name other (sym a ∙ h.0)) content h.1)
-  ends_reported (unread other) status ended line h e put = inr h.1
+  ends_reported (unread other) status ended line h e put = inr (h.1, rw e at (ends put))
   ends_reported out_of_memory status ended line h e put = inl (inr (inr (ended_so ended put.answer (rw e at put.status_is))))
 
 pub reported_ends : OneReport → (words : List (List ℕ)) {old new : World} {status ended : Status} {text : List ℕ} {old_out new_out : PortView} → IsWork (command_of words) old new status text → IsWritten old_out new_out status text ended
@@ -65,11 +65,11 @@ nothing_asked command e = absurd cc
 
 pub one_course : OneReport → OneCourse
 one_course one asked old new other contents misused misused told h k s t = refl
-one_course one asked old new other contents misused (checked n x r) told h k s t = nothing_asked (check n) (sym h ∙ k.0)
-one_course one asked old new other contents misused (too_long n) told h k s t = nothing_asked (check n) (sym h ∙ k.0)
+one_course one asked old new other contents misused (checked n x r) told h k s t = nothing_asked (check n) (sym h.0 ∙ k.0)
+one_course one asked old new other contents misused (too_long n) told h k s t = nothing_asked (check n) (sym h.0 ∙ k.0)
 one_course one asked old new other contents misused (unread n) told h k s t = unsettled t
 one_course one asked old new other contents misused out_of_memory told h k s t = unsettled t
-one_course one asked old new other contents (checked n x r) misused told h k s t = nothing_asked (check n) (sym k ∙ h.0)
+one_course one asked old new other contents (checked n x r) misused told h k s t = nothing_asked (check n) (sym k.0 ∙ h.0)
 one_course one asked old new other contents (checked n x r) (checked m y q) told h k s t =
     let names : n ≡ m = same_name n m (sym h.0 ∙ k.0) in
     let texts : x ≡ y = same_text old contents n m x y told names h.1 k.1 in
@@ -78,7 +78,7 @@ one_course one asked old new other contents (checked n x r) (checked m y q) told
 one_course one asked old new other contents (checked n x r) (too_long m) told h k s t = absurd (within_limit old contents n m x told (same_name n m (sym h.0 ∙ k.0)) h.1 k.1)
 one_course one asked old new other contents (checked n x r) (unread m) told h k s t = unsettled t
 one_course one asked old new other contents (checked n x r) out_of_memory told h k s t = unsettled t
-one_course one asked old new other contents (too_long n) misused told h k s t = nothing_asked (check n) (sym k ∙ h.0)
+one_course one asked old new other contents (too_long n) misused told h k s t = nothing_asked (check n) (sym k.0 ∙ h.0)
 one_course one asked old new other contents (too_long n) (checked m y q) told h k s t = absurd (within_limit old contents m n y told (same_name m n (sym k.0 ∙ h.0)) k.1 h.1)
 one_course one asked old new other contents (too_long n) (too_long m) told h k s t = ap too_long (same_name n m (sym h.0 ∙ k.0))
 one_course one asked old new other contents (too_long n) (unread m) told h k s t = unsettled t

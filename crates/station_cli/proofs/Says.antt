@@ -173,12 +173,12 @@ module _ (law : Theorem) (steady : Theorem_steady) (one_cut : OneCut) (one_tree 
   pub free_says : FreeIsSafe words old old_out new_out
   free_says before bytes says =
       let p : (n : ℕ) × (bytes ≡ take n text) = put_prefix old_out.sent new_out.sent before bytes text put.answer says.old_bytes says.new_bytes put.written.bytes_put in
-      let c = checked_of (command_of words) old new 70 work.course text (omega arith) work.cause work.text_is (ninth text bytes (codes "VERDICT FREE\n") p.0 13 70 p.1 says.begins refl (lit< tt) refl) in
+      let c = checked_of (command_of words) old new 70 work.course text (omega arith) work.cause work.text_is (ninth text bytes (codes "VERDICT FREE") p.0 12 70 p.1 says.begins refl (lit< tt) refl) in
       let free = report_free c.made c.begins in
       is_safe law steady one_cut one_tree words old bytes text p.0 p.1 c free (analysed_of c.name c.content c.made c.report (λ told is. no_refusal c.made.verdict told free is))
 
   pub alarms_say : AlarmsCover words old old_out new_out
   alarms_say before bytes says =
       let p : (n : ℕ) × (bytes ≡ take n text) = put_prefix old_out.sent new_out.sent before bytes text put.answer says.old_bytes says.new_bytes put.written.bytes_put in
-      let c = checked_of (command_of words) old new 65 work.course text (omega arith) work.cause work.text_is (ninth text bytes (codes "VERDICT ALARMS ") p.0 15 65 p.1 says.begins refl (lit< tt) refl) in
+      let c = checked_of (command_of words) old new 65 work.course text (omega arith) work.cause work.text_is (ninth text bytes (codes "VERDICT ALARMS") p.0 14 65 p.1 says.begins refl (lit< tt) refl) in
       is_covered law steady one_cut one_tree words old bytes text p.0 p.1 c (analysed_of c.name c.content c.made c.report (λ told is. report_kept c.made told c.begins is))

@@ -9,9 +9,9 @@ use Rattle.station_cli.specs.Words.{check, command_of}
 use Rattle.station_cli.specs.Report.{IsReport}
 use Rattle.station_cli.specs.Run.{World, Course, Happens, max_file, verdict_status, status_of, text_of, is_settled}
 use Rattle.station_cli.specs.declared.status.Status.{Status}
-use Rattle.station_cli.specs.declared.status.Status.TheVariants.{NoMemory, WriteFault, TooLong}
+use Rattle.station_cli.specs.declared.status.Status.TheVariants.{NoMemory, WriteFault, ReadFault, TooLong}
 
--- the words name a file that is above the limit
+-- the words name a file that is above the limit, where the files tell
 pub record IsAboveLimit (words : List (List ℕ)) (old : World) : Type 0 where
   pub name : List ℕ
   pub asked : command_of words ≡ Some (check name)
@@ -27,7 +27,7 @@ pub record IsToldAbove (words : List (List ℕ)) (old : World) : Type 0 where
   pub there : contents name ≡ Some content
   pub above : max_file < length content
 
--- the words name a file whose text is reported with a verdict of this status
+-- the words name a file whose text, its content where the files tell, is reported with a verdict of this status
 pub record IsReportedAs (words : List (List ℕ)) (old : World) (status : Status) : Type 0 where
   pub name : List ℕ
   pub text : List ℕ
@@ -51,12 +51,12 @@ Ends status old_out new_out ended =
 -- What a file above the limit is answered: so, unless reading it failed.
 abbrev pub EndsTooLong : World → World → PortView → PortView → Status → Type 0
 EndsTooLong old new old_out new_out ended =
-    Ends TooLong old_out new_out ended ⊎ Rose old.files.faults new.files.faults
+    Ends TooLong old_out new_out ended ⊎ (Rose old.files.faults new.files.faults × Ends ReadFault old_out new_out ended)
 
 -- How a file within the limit is answered: with this status, unless reading it failed.
 abbrev pub EndsReported : World → World → PortView → PortView → Status → Status → Type 0
 EndsReported old new old_out new_out status ended =
-    Ends status old_out new_out ended ⊎ Rose old.files.faults new.files.faults
+    Ends status old_out new_out ended ⊎ (Rose old.files.faults new.files.faults × Ends ReadFault old_out new_out ended)
 
 -- no count rose in the call
 pub record IsCalm (old new : World) (old_out new_out : PortView) : Type 0 where

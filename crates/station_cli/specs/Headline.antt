@@ -31,7 +31,7 @@ use Rattle.station_cli.specs.Run.{World, max_file}
 
 -- ---- the program of a text, and what a report says of a run
 
--- The component that a text defines: that of the one program that its tokens spell.
+-- A component that a text defines: that of the one program that its tokens spell. (They differ in the order of their literals alone.)
 pub record IsProgram (text : List ℕ) (component : Component) : Type 0 where
   pub tokens : List Token
   pub tree : SourceTree
@@ -104,7 +104,7 @@ pub record IsSafe (words : List (List ℕ)) (old : World) (bytes : List ℕ) : T
 
 -- Wherever the bytes that were put say FREE, also in a report that was cut short, the program is safe.
 abbrev pub FreeIsSafe : List (List ℕ) → World → PortView → PortView → Type 0
-FreeIsSafe words old old_out new_out = (before bytes : List ℕ) → Says old_out new_out before bytes (codes "VERDICT FREE\n") 13 → IsSafe words old bytes
+FreeIsSafe words old old_out new_out = (before bytes : List ℕ) → Says old_out new_out before bytes (codes "VERDICT FREE") 12 → IsSafe words old bytes
 
 -- Each fault of a run of the program that the text spells is at an alarm of the report, with its value in the alarm's range, and each
 -- variable stays in its printed range up to there.
@@ -115,4 +115,4 @@ pub record IsCovered (words : List (List ℕ)) (old : World) (bytes : List ℕ) 
 
 -- Wherever the bytes that were put say ALARMS, the report covers each run.
 abbrev pub AlarmsCover : List (List ℕ) → World → PortView → PortView → Type 0
-AlarmsCover words old old_out new_out = (before bytes : List ℕ) → Says old_out new_out before bytes (codes "VERDICT ALARMS ") 15 → IsCovered words old bytes
+AlarmsCover words old old_out new_out = (before bytes : List ℕ) → Says old_out new_out before bytes (codes "VERDICT ALARMS") 14 → IsCovered words old bytes

@@ -32,12 +32,12 @@ pub data Course : Type 0 where
   too_long : (name : List ℕ) → Course
   -- a file couldn't be read
   unread : (name : List ℕ) → Course
-  -- there was no memory for the line
+  -- there was no memory
   out_of_memory : Course
 
 -- the cause of each course, of what the words ask for
 abbrev pub Happens : Option Command → World → World → Course → Type 0
-Happens asked old new misused = asked ≡ None
+Happens asked old new misused = (asked ≡ None) × (new ≡ old)
 Happens asked old new (checked name text made) = (asked ≡ Some (check name)) × IsContent old.files name max_file text × IsReport name text made
 Happens asked old new (too_long name) = (asked ≡ Some (check name)) × IsTooLong old.files name max_file
 Happens asked old new (unread name) = (asked ≡ Some (check name)) × Rose old.files.faults new.files.faults
@@ -90,7 +90,7 @@ status_after status (Ok done) = status
 status_after status (Err put.NoMemory) = NoMemory
 status_after status (Err put.Failed) = after_fault status
 
--- This line was put in one put, and the call ended by its answer.
+-- This line was put, whole or after a refusal a prefix of it, and the call ended by the answer.
 pub record IsWritten (old new : PortView) (status : Status) (text : List ℕ) (ended : Status) : Type 0 where
   pub answer : Result (Unit {0}) PutRefusal
   pub written : IsPut old new text answer

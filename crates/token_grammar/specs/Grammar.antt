@@ -1,5 +1,5 @@
 -- A grammar: which lexemes, at which depths, spell which value. A rule reads like a line of the textual grammar of the standard. The
--- code descends with a token of look-ahead.
+-- code descends by a look at the next token.
 use Rattle.std.specs.Prelude.{◌≡◌, ◌⊎◌, ℕ, zero, suc, ◌+◌, ◌≤◌, Bool, true, List, [], ◌∷◌, ◌++◌}
 use Rattle.token_grammar.specs.declared.token.TokenKind.{TokenKind}
 use Rattle.token_grammar.specs.Texts.{Lexeme}

@@ -33,9 +33,11 @@ returns-else-is_empty c =
     let e : p.program (input 0 0 ls) ≡ Ok (bare_unit c.in-Ok.unit, view c.program.new.self.cursor) =
     subst (λ (i : Input). p.program i ≡ Ok (bare_unit c.in-Ok.unit, view c.program.new.self.cursor)) c.new-parser.ensures.view c.in-Ok.ensures.reads in
     let some : c.program.new.self.cursor.rest.now ≡ [] → ⊥ = λ none. grind (arith, common_steps, c.is_empty.ensures, c.if-is_empty.false) in
-    rw c.fault_at.ensures
-    (left_over text c.args.tokens.now.list.items (bare_unit c.in-Ok.unit) (view c.program.new.self.cursor) (place_at text (view c.program.new.self.cursor).rest) e
-    (some_left c.program.new.self.cursor.text.now c.program.new.self.cursor.rest.now some) refl)
+    rw c.fault_at.ensures (
+      refl,
+      left_over text c.args.tokens.now.list.items (bare_unit c.in-Ok.unit) (view c.program.new.self.cursor) (place_at text (view c.program.new.self.cursor).rest) e
+          (some_left c.program.new.self.cursor.text.now c.program.new.self.cursor.rest.now some) refl,
+    )
 
 pub returns-in-Err : goal.returns-in-Err
 returns-in-Err c =

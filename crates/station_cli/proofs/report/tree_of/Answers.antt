@@ -3,16 +3,11 @@ use Rattle.std.specs.List.{Contains}
 use Rattle.token_grammar.specs.declared.token.Token.{Token}
 use Rattle.st_lexer.specs.Cut.{IsCut}
 use Rattle.st_lexer.specs.Placed.{IsIn, IsShort}
-use Rattle.st_tree.specs.declared.fault.FaultCode.{FaultCode}
-use Rattle.st_tree.specs.declared.fault.FaultCode.TheVariants.{NotBuilt}
 use Rattle.st_expr.specs.FirstForm.{IsTree, IsRefused}
 use Rattle.st_expr.specs.Answers.{Refuses}
 use Rattle.st_expr.specs.declared.file.ParseFault.TheVariants.{At}
 use Rattle.station_cli.proofs.Parsed.{analysable, refused_within}
 use Rattle.station_cli.proofs.report.tree_of.Goals as goal
-
-only_code : (code : FaultCode) → code ≡ NotBuilt
-only_code NotBuilt = refl
 
 pub returns-in-Ok-first_form : goal.returns-in-Ok-first_form
 returns-in-Ok-first_form g c =
@@ -33,5 +28,5 @@ returns-in-Err-At g c =
     let cut : IsCut text items = subst (λ (bytes : List ℕ). IsCut bytes items) same c.in-Ok.ensures.cut in
     let within : (t : Token) → Contains items t → IsIn text t = λ t there. subst (λ (bytes : List ℕ). IsIn bytes t) same (c.in-Ok.ensures.within t there) in
     let at_fault : Refuses c.in-Ok.tokens.text.now items (At c.in-Err-At.code c.in-Err-At.at) = subst (Refuses c.in-Ok.tokens.text.now items) c.in-Err-At.field-0-is c.in-Err-At.ensures.answers in
-    let refused : IsRefused text items c.in-Err-At.at = subst (λ (bytes : List ℕ). IsRefused bytes items c.in-Err-At.at) (c.in-Ok.ensures.text ∙ same) at_fault in
-    (items, cut, (only_code c.in-Err-At.code, refused_within text items c.in-Err-At.at within refused, refused))
+    let refused : IsRefused text items c.in-Err-At.at = subst (λ (bytes : List ℕ). IsRefused bytes items c.in-Err-At.at) (c.in-Ok.ensures.text ∙ same) at_fault.1 in
+    (items, cut, (at_fault.0, refused_within text items c.in-Err-At.at within refused, refused))
