@@ -1,15 +1,18 @@
 -- A text that is told determines how the call ends.
-use Rattle.std.proofs.Common.{◌≡◌, ℕ, ◌<◌, true, false, List, length, Some, None, refl, sym, ap, subst, ◌∙◌, arith, inl, inr}
-use Rattle.std.specs.Prelude.{Option}
+use Rattle.std.proofs.Common.{◌≡◌, ℕ, ◌<◌, Bool, true, false, List, length, Some, None, Ok, Err, refl, sym, ap, subst, ◌∙◌, arith, inl, inr}
+use Rattle.std.specs.Prelude.{Option, Result}
+use Rattle.station_ports.specs.declared.outside.PutRefusal.{PutRefusal}
+use Rattle.station_ports.specs.declared.outside.PutRefusal.TheVariants as refusal
 use Rattle.station_ports.specs.Views.{PortView}
 use Rattle.station_ports.specs.Calls.{IsContent, IsTooLong}
 use Rattle.finding_spans.specs.declared.report.Report.{Report}
 use Rattle.station_cli.specs.Words.{Command, check, command_of}
 use Rattle.station_cli.specs.Report.{IsReport}
 use Rattle.station_cli.specs.OneReport.{OneReport, OneCourse}
-use Rattle.station_cli.specs.Run.{World, Course, misused, checked, too_long, unread, out_of_memory, Happens, verdict_status, status_of, max_file, IsWork, IsWritten}
-use Rattle.station_cli.specs.Causes.{Ends, IsToldReported, EndsReported}
+use Rattle.station_cli.specs.Run.{World, Course, misused, checked, too_long, unread, out_of_memory, Happens, verdict_status, status_of, max_file, after_fault, status_after, IsWork, IsWritten}
+use Rattle.station_cli.specs.Causes.{Ends, IsReportedAs, IsToldReported, EndsReported}
 use Rattle.station_cli.specs.declared.status.Status.{Status}
+use Rattle.station_cli.specs.declared.status.Status.TheVariants.{Clean, Open, Refused, Usage, ReadFault, WriteFault, NoMemory, TooLong}
 use Rattle.station_cli.proofs.Complete.{ends, ended_so}
 
 same_name : (name other : List ℕ) → Some (check name) ≡ Some (check other) → name ≡ other
@@ -55,10 +58,51 @@ reported_ends one words {old} {new} {status} {ended} {text} {old_out} {new_out} 
     subst (λ (s : Status). EndsReported old new old_out new_out s ended) t.reported.status_is
     (ends_reported one (command_of words) old new old_out new_out t.contents t.told t.reported.name t.reported.text t.reported.made t.reported.asked t.reported.content t.reported.report work.course status ended text work.cause work.status_is put)
 
--- ---- one course
+-- ---- what a status of a verdict says
 
 unsettled : {A : Type 0} → false ≡ true → A
 unsettled e = absurd cc
+
+abbrev is_of_verdict : Status → Bool
+is_of_verdict Clean = true
+is_of_verdict Open = true
+is_of_verdict Refused = true
+is_of_verdict other = false
+
+abbrev Is : Status → Status → Type 0
+Is a b = a ≡ b
+
+none_of_verdict : (wanted other : Status) → Is other wanted → is_of_verdict wanted ≡ true → is_of_verdict other ≡ true
+none_of_verdict wanted other e v = subst (λ (s : Status). is_of_verdict s ≡ true) (sym e) v
+
+after_none : (status : Status) → is_of_verdict (after_fault status) ≡ false
+after_none NoMemory = refl
+after_none Clean = refl
+after_none Open = refl
+after_none Refused = refl
+after_none Usage = refl
+after_none ReadFault = refl
+after_none WriteFault = refl
+after_none TooLong = refl
+
+status_kept : (status wanted : Status) (answer : Result (Unit {0}) PutRefusal) → wanted ≡ status_after status answer → is_of_verdict wanted ≡ true → status ≡ wanted
+status_kept status wanted (Ok done) e v = sym e
+status_kept status wanted (Err refusal.NoMemory) e v = unsettled (none_of_verdict wanted NoMemory (sym e) v)
+status_kept status wanted (Err refusal.Failed) e v = unsettled (sym (after_none status) ∙ none_of_verdict wanted (after_fault status) (sym e) v)
+
+course_reported : (words : List (List ℕ)) (old new : World) (course : Course) (wanted : Status) → Happens (command_of words) old new course → status_of course ≡ wanted → is_of_verdict wanted ≡ true → IsReportedAs words old wanted
+course_reported words old new misused wanted h e v = unsettled (none_of_verdict wanted Usage e v)
+course_reported words old new (checked name text made) wanted h e v = record { name = name; text = text; made = made; asked = h.0; content = h.1; report = h.2; status_is = e }
+course_reported words old new (too_long name) wanted h e v = unsettled (none_of_verdict wanted TooLong e v)
+course_reported words old new (unread name) wanted h e v = unsettled (none_of_verdict wanted ReadFault e v)
+course_reported words old new out_of_memory wanted h e v = unsettled (none_of_verdict wanted NoMemory e v)
+
+pub status_reported : (words : List (List ℕ)) {old new : World} {status ended : Status} {text : List ℕ} {old_out new_out : PortView} → IsWork (command_of words) old new status text → IsWritten old_out new_out status text ended
+    → (wanted : Status) → ended ≡ wanted → is_of_verdict wanted ≡ true → IsReportedAs words old wanted
+status_reported words {old} {new} {status} {ended} {text} {old_out} {new_out} work put wanted e v =
+    course_reported words old new work.course wanted work.cause (sym work.status_is ∙ status_kept status wanted put.answer (sym e ∙ put.status_is) v) v
+
+-- ---- one course
 
 nothing_asked : {A : Type 0} (command : Command) → None ≡ Some command → A
 nothing_asked command e = absurd cc

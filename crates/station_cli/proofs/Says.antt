@@ -31,9 +31,12 @@ use Rattle.station_cli.specs.Words.{Command, check, command_of}
 use Rattle.station_cli.specs.Report.{IsReport, IsAnalysed}
 use Rattle.station_cli.specs.Reports.{Fits}
 use Rattle.station_cli.specs.Run.{World, Course, misused, checked, too_long, unread, out_of_memory, Happens, max_file, IsWork, IsWritten}
+use Rattle.station_cli.specs.Run.{verdict_status}
+use Rattle.station_cli.specs.Causes.{IsReportedAs}
 use Rattle.station_cli.specs.Run as runs
-use Rattle.station_cli.specs.Headline.{IsProgram, IsForetold, IsFaultless, IsOfReport, IsSafe, FreeIsSafe, NeverWaits, IsCovered, AlarmsCover}
+use Rattle.station_cli.specs.Headline.{IsProgram, IsForetold, IsFaultless, IsOfReport, IsSafe, FreeIsSafe, NeverWaits, IsCovered, AlarmsCover, IsReportedSafe, IsReportedCovered, ReportsHold, FreeHolds}
 use Rattle.station_cli.specs.declared.status.Status.{Status}
+use Rattle.station_cli.specs.declared.status.Status.TheVariants.{Clean, Open}
 use Rattle.station_cli.proofs.OneReport.{OneCut}
 use Rattle.station_cli.proofs.Runs.{foretold}
 
@@ -182,3 +185,36 @@ module _ (law : Theorem) (steady : Theorem_steady) (one_cut : OneCut) (one_tree 
       let p : (n : ℕ) × (bytes ≡ take n text) = put_prefix old_out.sent new_out.sent before bytes text put.answer says.old_bytes says.new_bytes put.written.bytes_put in
       let c = checked_of (command_of words) old new 65 work.course text (omega arith) work.cause work.text_is (ninth text bytes (codes "VERDICT ALARMS") p.0 14 65 p.1 says.begins refl (lit< tt) refl) in
       is_covered law steady one_cut one_tree words old bytes text p.0 p.1 c (analysed_of c.name c.content c.made c.report (λ told is. report_kept c.made told c.begins is))
+
+-- ---- what the definitions say alone
+
+-- a text that spells a program is not refused
+module _ (law : Theorem) (steady : Theorem_steady) (one_cut : OneCut) (one_tree : OneTree) where
+  analysed_program : (name text : List ℕ) (made : Report) (component : Component) → IsProgram text component → IsReport name text made → IsAnalysed name text made
+  analysed_program name text made component p (inl a) = a
+  analysed_program name text made component p (inr r) =
+      let tokens : p.tokens ≡ r.tokens = one_cut text p.tokens r.tokens p.cut r.cut in
+      absurd (r.refused.unspelled p.tree (subst (λ (ts : List Token). IsTree text ts p.tree) tokens p.spelled))
+
+  pub reports_hold : ReportsHold
+  reports_hold name text made h component p moves = foretold_of law one_cut one_tree name text made (analysed_program name text made component p h) component p moves
+
+  pub free_holds : FreeHolds
+  free_holds name text made h free =
+      let a = analysed_of name text made h (λ told is. no_refusal made.verdict told free is) in (
+        (λ component p moves. faultless_by component made (run component moves (start component)) (free_alarms made.verdict _ _ free a.report.counted.verdict) (reports_hold name text made h component p moves)),
+        live_of steady text,
+      )
+
+  free_status : (v : Verdict) → verdict_status v ≡ Clean → v ≡ verdict.Free
+  free_status verdict.Free e = refl
+  free_status (verdict.Alarms told) e = cc
+  free_status (verdict.Refused told) e = cc
+
+  pub reported_safe : (words : List (List ℕ)) (old : World) → IsReportedAs words old Clean → IsReportedSafe words old
+  reported_safe words old r =
+      let h = free_holds r.name r.text r.made r.report (free_status r.made.verdict r.status_is) in
+      record { reported = r; faultless = h.0; live = h.1 }
+
+  pub reported_covered : (words : List (List ℕ)) (old : World) → IsReportedAs words old Open → IsReportedCovered words old
+  reported_covered words old r = record { reported = r; foretold = reports_hold r.name r.text r.made r.report; live = live_of steady r.text }

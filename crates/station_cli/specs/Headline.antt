@@ -28,6 +28,8 @@ use Rattle.report_text.specs.Text.{text_of}
 use Rattle.station_cli.specs.Words.{check, command_of}
 use Rattle.station_cli.specs.Report.{IsReport}
 use Rattle.station_cli.specs.Run.{World, max_file}
+use Rattle.station_cli.specs.Causes.{IsReportedAs}
+use Rattle.station_cli.specs.declared.status.Status.TheVariants.{Clean, Open}
 
 -- ---- the program of a text, and what a report says of a run
 
@@ -116,3 +118,32 @@ pub record IsCovered (words : List (List ℕ)) (old : World) (bytes : List ℕ) 
 -- Wherever the bytes that were put say ALARMS, the report covers each run.
 abbrev pub AlarmsCover : List (List ℕ) → World → PortView → PortView → Type 0
 AlarmsCover words old old_out new_out = (before bytes : List ℕ) → Says old_out new_out before bytes (codes "VERDICT ALARMS") 14 → IsCovered words old bytes
+
+-- ---- what was answered
+
+-- The words name a file whose report is FREE, and no run of the program that its text spells faults.
+pub record IsReportedSafe (words : List (List ℕ)) (old : World) : Type 0 where
+  pub reported : IsReportedAs words old Clean
+  pub faultless : (component : Component) → IsProgram reported.text component → (moves : List Move) → IsFaultless component reported.made (run component moves (start component))
+  pub live : NeverWaits reported.text
+
+-- The words name a file whose report has alarms, and each fault of a run of the program that its text spells is at one of them.
+pub record IsReportedCovered (words : List (List ℕ)) (old : World) : Type 0 where
+  pub reported : IsReportedAs words old Open
+  pub foretold : (component : Component) → IsProgram reported.text component → (moves : List Move) → IsForetold component reported.made (run component moves (start component))
+  pub live : NeverWaits reported.text
+
+-- ---- what the definitions say alone
+
+-- The report that is defined for a text holds of each run of each program that the text spells.
+abbrev pub ReportsHold : Type 0
+ReportsHold =
+    (name text : List ℕ) (made : Report) → IsReport name text made →
+    (component : Component) → IsProgram text component → (moves : List Move) → IsForetold component made (run component moves (start component))
+
+-- Where the verdict of the defined report is FREE, no run faults, and no task waits.
+abbrev pub FreeHolds : Type 0
+FreeHolds =
+    (name text : List ℕ) (made : Report) → IsReport name text made → made.verdict ≡ Free →
+    ((component : Component) → IsProgram text component → (moves : List Move) → IsFaultless component made (run component moves (start component)))
+    × NeverWaits text

@@ -4,7 +4,7 @@ pub mod Report
 pub mod Parsing
 pub mod Lines
 pub mod Run
-pub mod Headline
 pub mod Causes
+pub mod Headline
 pub mod Codes
 pub mod OneReport

@@ -4,7 +4,7 @@ ghost use Rattle.station_ports.specs.Calls.{Rose};
 ghost use Rattle.report_text.specs.Text as report_text;
 ghost use Rattle.station_cli.specs.Words.{check, command_of};
 ghost use Rattle.station_cli.specs.Run.{IsRun, IsWork, IsWritten, verdict_status};
-ghost use Rattle.station_cli.specs.Headline.{FreeIsSafe, AlarmsCover};
+ghost use Rattle.station_cli.specs.Headline.{FreeIsSafe, AlarmsCover, IsReportedSafe, IsReportedCovered};
 ghost use Rattle.station_cli.specs.Causes.{Completes, IsReportedAs, IsToldReported, EndsReported, IsAboveLimit, IsToldAbove, Ends, EndsTooLong};
 
 use crate::law::one_report;
@@ -53,8 +53,8 @@ pub fn run<F: Files, S: Sink, L: Ledger>(
     ensures alarms { AlarmsCover (map string_bytes words.now) (record { files = F.view files.old }) (S.view out.old) (S.view out.new) }
 
     // Each status by its cause.
-    ensures clean { result ≡ Status.Clean → IsReportedAs (map string_bytes words.now) (record { files = F.view files.old }) Status.Clean }
-    ensures open { result ≡ Status.Open → IsReportedAs (map string_bytes words.now) (record { files = F.view files.old }) Status.Open }
+    ensures clean { result ≡ Status.Clean → IsReportedSafe (map string_bytes words.now) (record { files = F.view files.old }) }
+    ensures open { result ≡ Status.Open → IsReportedCovered (map string_bytes words.now) (record { files = F.view files.old }) }
     ensures refused { result ≡ Status.Refused → IsReportedAs (map string_bytes words.now) (record { files = F.view files.old }) Status.Refused }
     ensures reported { (status : Status) → IsToldReported (map string_bytes words.now) (record { files = F.view files.old }) status →
         EndsReported (record { files = F.view files.old }) (record { files = F.view files.new }) (S.view out.old) (S.view out.new) status result }

@@ -1,4 +1,4 @@
-// The program over objects in memory: each status, the worked rows, and each read and put failing in turn; and the calls of the lower
+// The program over objects in memory: each status, texts with their outcomes, and each read and put failing in turn; and the calls of the lower
 // crates that the program doesn't make.
 ghost use Rattle.std.specs.Prelude.{◌≡◌};
 
@@ -349,6 +349,23 @@ fn limits(rt: HostRuntime) -> Result<(), Fail> {
     assert_eq!(rt;
         within.output.as_slice(),
         b"VERDICT REFUSED a.st:1:1048577 8 NotBuilt\nEND open 0 waived 0\n".as_slice()
+    );
+    Ok(())
+}
+
+#[test]
+fn large_text(rt: HostRuntime) -> Result<(), Fail> {
+    let mut text = Vec::from_slice(rt.alloc(), b"PROGRAM P VAR a, b : INT; END_VAR\n")?;
+    for _ in 0..5000 {
+        text.extend_from_slice(b"a := 1 + 2; b := a;\n")?;
+    }
+    text.extend_from_slice(b"END_PROGRAM\n")?;
+    let found = result_over(&rt, &CHECK, &text, &[], &[])?;
+    assert_eq!(rt; found.status, Status::Clean);
+    assert_eq!(rt; found.parsed, 50_011);
+    assert_eq!(rt;
+        found.output.as_slice(),
+        b"VERDICT FREE\nRANGE MAIN.A 0..3\nRANGE MAIN.B 0..3\nEND open 0 waived 0\n".as_slice()
     );
     Ok(())
 }

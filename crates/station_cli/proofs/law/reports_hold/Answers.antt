@@ -1,0 +1,8 @@
+use Rattle.station_cli.proofs.Says.{reports_hold, free_holds}
+use Rattle.station_cli.proofs.law.reports_hold.Goals as goal
+
+pub returns-clause-all : goal.returns-clause-all
+returns-clause-all c = reports_hold c.headline.ensures.covered c.headline.ensures.steady c.one_cut.ensures c.tree_laws.ensures.one
+
+pub returns-clause-free : goal.returns-clause-free
+returns-clause-free c = free_holds c.headline.ensures.covered c.headline.ensures.steady c.one_cut.ensures c.tree_laws.ensures.one
