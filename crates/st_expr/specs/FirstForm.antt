@@ -8,8 +8,8 @@
 --     term    = path | [ "-" ] number
 --     path    = name
 --
--- A name is declared once, and a path names a declared variable. A minus before a number is part of the literal. Sums group to the
--- left. The code reads from left to right, with a look ahead at the operators of a sum, and numbers the nodes as it goes.
+-- A name is declared once, and a path names a declared variable. A minus where a term begins is part of the literal; behind a term it
+-- is the operator. Sums group to the left. The code reads from left to right, with a look ahead at the operators of a sum, and numbers the nodes as it goes.
 use Rattle.std.specs.Prelude.{◌≡◌, ℕ, ◌-◌, ◌^◌, min, ◌&&◌, Bool, true, false, not, List, [], ◌∷◌, ◌++◌, length}
 use Rattle.iec_tables.specs.declared.elem.Elem.TheVariants as elem
 use Rattle.token_grammar.specs.declared.token.TokenKind.TheVariants.{Program, EndProgram, Var, EndVar, Int, Name, Number, Becomes, Colon, Comma, Semicolon, Plus, Minus}

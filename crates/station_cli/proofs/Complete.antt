@@ -1,9 +1,10 @@
 -- What follows from the course that a call took and from the put of its line.
-use Rattle.std.proofs.Common.{◌≡◌, ◌⊎◌, ℕ, ◌<◌, ◌≤◌, List, length, Some, None, Ok, Err, refl, ap, sym, ◌∙◌, arith, inl, inr, true}
-use Rattle.std.specs.Prelude.{Option, Result}
+use Rattle.std.proofs.Common.{◌≡◌, ◌⊎◌, ℕ, ◌<◌, ◌≤◌, List, length, Some, None, Ok, Err, refl, ap, sym, subst, ◌∙◌, arith, inl, inr, true}
+use Rattle.std.specs.Prelude.{Option, Result, ◌+◌, ◌-◌, ◌^◌, min}
+use Rattle.std.proofs.Math.Nat.{le_refl}
 use Rattle.std.specs.Io.KnownBytes.{Appends}
 use Rattle.station_ports.specs.Views.{PortView}
-use Rattle.station_ports.specs.Calls.{Rose, IsPut}
+use Rattle.station_ports.specs.Calls.{Rose, IsNextCount, IsPut}
 use Rattle.station_ports.specs.declared.outside.PutRefusal.{PutRefusal}
 use Rattle.station_ports.specs.declared.outside.PutRefusal.TheVariants as refusal
 use Rattle.station_cli.specs.Words.{Command, check, command_of}
@@ -12,19 +13,23 @@ use Rattle.station_cli.specs.Causes.{IsCalm, Completes, Ends, EndsTooLong, IsTol
 use Rattle.station_cli.specs.declared.status.Status.{Status}
 use Rattle.station_cli.specs.declared.status.Status.TheVariants.{Clean, Open, Refused, Usage, ReadFault, WriteFault, NoMemory, TooLong}
 
+-- a count that is the next one rose
+pub risen : (before now : ℕ) → IsNextCount before now → Rose before now
+risen before now e = subst (λ (n : ℕ). min (before + 1) (2 ^ 64 - 1) ≤ n) (sym e) (le_refl (min (before + 1) (2 ^ 64 - 1)))
+
 -- a course that its cause led to, and that wasn't cut short
 settled : (asked : Option Command) (old new : World) (old_out new_out : PortView) (course : Course) → IsCalm old new old_out new_out → Happens asked old new course → (course ≡ out_of_memory) ⊎ (is_settled course ≡ true)
 settled asked old new old_out new_out misused calm h = inr refl
 settled asked old new old_out new_out (checked name text made) calm h = inr refl
 settled asked old new old_out new_out (too_long name) calm h = inr refl
-settled asked old new old_out new_out (unread name) calm h = absurd (calm.files h.1)
+settled asked old new old_out new_out (unread name) calm h = absurd (calm.files (risen old.files.faults new.files.faults h.1))
 settled asked old new old_out new_out out_of_memory calm h = inl refl
 
 -- the line was put, or there was no memory
 put_whole : (old_out new_out : PortView) (status ended : Status) (text : List ℕ) (answer : Result (Unit {0}) PutRefusal) → IsPut old_out new_out text answer → ended ≡ status_after status answer → (Rose old_out.faults new_out.faults → ⊥) → (ended ≡ NoMemory) ⊎ ((ended ≡ status) × Appends old_out.sent new_out.sent text)
 put_whole old_out new_out status ended text (Ok done) put e calm = inr (e, put.bytes_put)
 put_whole old_out new_out status ended text (Err refusal.NoMemory) put e calm = inl e
-put_whole old_out new_out status ended text (Err refusal.Failed) put e calm = absurd (calm (put.cause.failed refl))
+put_whole old_out new_out status ended text (Err refusal.Failed) put e calm = absurd (calm (risen old_out.faults new_out.faults (put.cause.failed refl)))
 
 pub completes : (words : List (List ℕ)) {old new : World} {status ended : Status} {text : List ℕ} {old_out new_out : PortView} → IsWork (command_of words) old new status text → IsWritten old_out new_out status text ended → Completes words old new old_out new_out ended
 completes words {old} {new} {status} {ended} {text} {old_out} {new_out} work put calm =
@@ -56,7 +61,7 @@ after_put old_out new_out TooLong ended rose e = inr (inl (e, rose))
 ends_by : (old_out new_out : PortView) (status ended : Status) (text : List ℕ) (answer : Result (Unit {0}) PutRefusal) → IsPut old_out new_out text answer → ended ≡ status_after status answer → Ends status old_out new_out ended
 ends_by old_out new_out status ended text (Ok done) put e = inl e
 ends_by old_out new_out status ended text (Err refusal.NoMemory) put e = inr (inr e)
-ends_by old_out new_out status ended text (Err refusal.Failed) put e = after_put old_out new_out status ended (put.cause.failed refl) e
+ends_by old_out new_out status ended text (Err refusal.Failed) put e = after_put old_out new_out status ended (risen old_out.faults new_out.faults (put.cause.failed refl)) e
 
 pub ends : {status ended : Status} {text : List ℕ} {old_out new_out : PortView} → IsWritten old_out new_out status text ended → Ends status old_out new_out ended
 ends {status} {ended} {text} {old_out} {new_out} put = ends_by old_out new_out status ended text put.answer put.written put.status_is
@@ -92,7 +97,7 @@ above_of asked old new old_out new_out contents name content misused status ende
 above_of asked old new old_out new_out contents name content (checked other found made) status ended text a told there above h e put =
     absurd (not_within contents name other content found (sym a ∙ h.0) there (rw told at h.1.holds) above h.1.within)
 above_of asked old new old_out new_out contents name content (too_long other) status ended text a told there above h e put = inl (rw e at (ends put))
-above_of asked old new old_out new_out contents name content (unread other) status ended text a told there above h e put = inr (h.1, rw e at (ends put))
+above_of asked old new old_out new_out contents name content (unread other) status ended text a told there above h e put = inr (risen old.files.faults new.files.faults h.1, rw e at (ends put))
 above_of asked old new old_out new_out contents name content out_of_memory status ended text a told there above h e put = inl (inr (inr (ended_so ended put.answer (rw e at put.status_is))))
 
 pub above_ends : (words : List (List ℕ)) {old new : World} {status ended : Status} {text : List ℕ} {old_out new_out : PortView} → IsWork (command_of words) old new status text → IsWritten old_out new_out status text ended → IsToldAbove words old → EndsTooLong old new old_out new_out ended

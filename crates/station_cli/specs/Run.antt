@@ -1,9 +1,9 @@
 -- What a call of the program does. A call takes one course: each has its cause, the status it ends with and the bytes it writes.
 -- A further command adds its courses, and a further object of the outside its field of World.
 -- Source: this profile. The code works through the words, the file, the report and the put in this order.
-use Rattle.std.specs.Prelude.{◌≡◌, ℕ, ◌++◌, List, Option, Some, None, Result, Ok, Err, ⊤, codes, Bool, true, false}
+use Rattle.std.specs.Prelude.{◌≡◌, ◌⊎◌, ℕ, ◌++◌, List, Option, Some, None, Result, Ok, Err, codes, Bool, true, false}
 use Rattle.station_ports.specs.Views.{FilesView, PortView}
-use Rattle.station_ports.specs.Calls.{Rose, IsContent, IsTooLong, IsPut}
+use Rattle.station_ports.specs.Calls.{IsNextCount, IsContent, IsTooLong, IsPut}
 use Rattle.station_ports.specs.declared.outside.PutRefusal.{PutRefusal}
 use Rattle.station_ports.specs.declared.outside.PutRefusal.TheVariants as put
 use Rattle.finding_spans.specs.declared.report.Verdict.{Verdict}
@@ -35,13 +35,17 @@ pub data Course : Type 0 where
   -- there was no memory
   out_of_memory : Course
 
--- the cause of each course, of what the words ask for
+-- no fault was counted, or one
+abbrev pub AtMostOne : ℕ → ℕ → Type 0
+AtMostOne before now = (now ≡ before) ⊎ IsNextCount before now
+
+-- The cause of each course, of what the words ask for. The files count one fault where they failed, and else none.
 abbrev pub Happens : Option Command → World → World → Course → Type 0
 Happens asked old new misused = (asked ≡ None) × (new ≡ old)
-Happens asked old new (checked name text made) = (asked ≡ Some (check name)) × IsContent old.files name max_file text × IsReport name text made
-Happens asked old new (too_long name) = (asked ≡ Some (check name)) × IsTooLong old.files name max_file
-Happens asked old new (unread name) = (asked ≡ Some (check name)) × Rose old.files.faults new.files.faults
-Happens asked old new out_of_memory = ⊤
+Happens asked old new (checked name text made) = (asked ≡ Some (check name)) × IsContent old.files name max_file text × IsReport name text made × (new.files.faults ≡ old.files.faults)
+Happens asked old new (too_long name) = (asked ≡ Some (check name)) × IsTooLong old.files name max_file × (new.files.faults ≡ old.files.faults)
+Happens asked old new (unread name) = (asked ≡ Some (check name)) × IsNextCount old.files.faults new.files.faults
+Happens asked old new out_of_memory = AtMostOne old.files.faults new.files.faults
 
 -- The work came to its end: neither a fault nor want of memory cut it short.
 abbrev pub is_settled : Course → Bool

@@ -10,10 +10,15 @@ use Rattle.station_ports.specs.declared.outside.PutRefusal.TheVariants.{Failed, 
 abbrev pub Rose : ℕ → ℕ → Type 0
 Rose before now = min (before + 1) (2 ^ 64 - 1) ≤ now
 
--- The count doesn't fall in a call, and rises where the call failed.
-pub record HasCause (before now : ℕ) (Failed : Type 0) : Type 0 where
+-- the count rose by one, or stands at its counter's last value
+abbrev pub IsNextCount : ℕ → ℕ → Type 0
+IsNextCount before now = now ≡ min (before + 1) (2 ^ 64 - 1)
+
+-- A call counts itself where it failed, and nothing else.
+pub record IsFaultCounted (before now : ℕ) (Failed : Type 0) : Type 0 where
   pub later : before ≤ now
-  pub failed : Failed → Rose before now
+  pub failed : Failed → IsNextCount before now
+  pub otherwise : (Failed → ⊥) → now ≡ before
 
 -- this is the content of that name, where the files tell
 abbrev pub Holds : FilesView → List ℕ → List ℕ → Type 0
@@ -38,7 +43,7 @@ pub record IsTaken {F : Type 0} (old new : PortView) (into : List ℕ) (answer :
   pub count : ReadsAtMost answer into
   pub bytes : ReadConsumes old.left new.left answer into
   pub same : new.sent ≡ old.sent
-  pub cause : HasCause old.faults new.faults (IsErr answer)
+  pub cause : IsFaultCounted old.faults new.faults (IsErr answer)
 
 -- the first n of these bytes were appended, where the object tells
 pub record IsCutAt (old new : Option (List ℕ)) (bytes : List ℕ) (n : ℕ) : Type 0 where
@@ -55,4 +60,4 @@ Puts old new bytes (Err NoMemory) = (n : ℕ) × IsCutAt old new bytes n × (n �
 pub record IsPut (old new : PortView) (bytes : List ℕ) (answer : Result (Unit {0}) PutRefusal) : Type 0 where
   pub bytes_put : Puts old.sent new.sent bytes answer
   pub same : new.left ≡ old.left
-  pub cause : HasCause old.faults new.faults (answer ≡ Err Failed)
+  pub cause : IsFaultCounted old.faults new.faults (answer ≡ Err Failed)

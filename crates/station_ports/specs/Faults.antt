@@ -1,13 +1,8 @@
--- How faults are counted, and which calls of a form in memory are to fail: this product's own rules. The code counts in u64, which
+-- Which calls of a form in memory are to fail, and how its calls are counted: this product's own rules. The code counts in u64, which
 -- stay at their last value.
-use Rattle.std.specs.Prelude.{◌≡◌, ℕ, ◌+◌, ◌-◌, ◌^◌, ◌≤◌, min, Contains}
+use Rattle.std.specs.Prelude.{◌≡◌, ℕ, ◌+◌, ◌-◌, ◌^◌, min, Contains}
+use Rattle.station_ports.specs.Calls.{IsFaultCounted}
 use Rattle.station_ports.specs.declared.faults.FailingCalls.{FailingCalls}
-
--- The count rises by one where the call failed, unless it stands at a u64's last value, and else it stays. It never falls.
-pub record IsFaultCounted (before now : ℕ) (Failed : Type 0) : Type 0 where
-  pub later : before ≤ now
-  pub failed : Failed → now ≡ min (before + 1) (2 ^ 64 - 1)
-  pub otherwise : (Failed → ⊥) → now ≡ before
 
 -- the number of the next call, counted from 1; a u64's last value stands for all from there on
 abbrev pub next_number : FailingCalls → ℕ

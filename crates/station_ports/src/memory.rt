@@ -1,7 +1,7 @@
 // Forms in memory, which tell what they hold. They fail in the calls whose numbers are listed, counted from 1 over all calls of
 // the object, and where a name isn't there.
 ghost use Rattle.std.specs.Prelude.{◌≡◌, ◌≤◌, ◌<◌, ◌⊎◌, ◌↔◌, Some, None, IfOk, IsErr, IsErrOf, MatchOption, [], length};
-ghost use Rattle.station_ports.specs.Calls.{HasCause, IsContent, IsTooLong, IsMissing, IsTaken, IsPut};
+ghost use Rattle.station_ports.specs.Calls.{IsFaultCounted, IsContent, IsTooLong, IsMissing, IsTaken, IsPut};
 ghost use Rattle.station_ports.specs.Faults.{IsListed, IsCallCounted};
 ghost use Rattle.station_ports.specs.Memory.{NamesDiffer, content_of};
 
@@ -58,7 +58,7 @@ impl Files for MemoryFiles {
             IsErrOf result FileRefusal.Failed ⊎ IsErrOf result FileRefusal.NoMemory }
         ensures same { (⟦<MemoryFiles as Files>⟧.view self.new).contents ≡
             (⟦<MemoryFiles as Files>⟧.view self.old).contents }
-        ensures cause { HasCause (⟦<MemoryFiles as Files>⟧.view self.old).faults
+        ensures cause { IsFaultCounted (⟦<MemoryFiles as Files>⟧.view self.old).faults
             (⟦<MemoryFiles as Files>⟧.view self.new).faults (IsErrOf result FileRefusal.Failed) }
 
         // It fails exactly in the listed calls and where the name isn't there.

@@ -2,8 +2,7 @@
 // system gives and takes.
 ghost use Rattle.std.specs.Prelude.{◌≡◌, ◌⊎◌, IfOk, IsErrOf};
 ghost use Rattle.station_ports.specs.Views.{untold_files, untold_port};
-ghost use Rattle.station_ports.specs.Calls.{HasCause, IsContent, IsTooLong, IsMissing, IsPut};
-ghost use Rattle.station_ports.specs.Faults.{IsFaultCounted};
+ghost use Rattle.station_ports.specs.Calls.{IsFaultCounted, IsContent, IsTooLong, IsMissing, IsPut};
 
 use crate::faults::FaultCount;
 use crate::outside::{FileRefusal, Files, Port, PutRefusal, Sink};
@@ -41,11 +40,7 @@ impl<R: rt::Files + AllocGlobal> Files for OsFiles<'_, R> {
             IsErrOf result FileRefusal.Failed ⊎ IsErrOf result FileRefusal.NoMemory }
         ensures same { (untold_files self.new.count.faults).contents ≡
             (untold_files self.old.count.faults).contents }
-        ensures cause { HasCause self.old.count.faults self.new.count.faults
-            (IsErrOf result FileRefusal.Failed) }
-
-        // Nothing but a failed call is counted.
-        ensures counted { IsFaultCounted self.old.count.faults self.new.count.faults
+        ensures cause { IsFaultCounted self.old.count.faults self.new.count.faults
             (IsErrOf result FileRefusal.Failed) }
     {
         match read_at_most(self.runtime, name, limit) {
@@ -100,10 +95,6 @@ impl<R: Print> Sink for OsOut<'_, R> {
     fn put(&mut self, bytes: &[u8]) -> Result<(), PutRefusal>
         ensures put { IsPut (untold_port self.old.count.faults) (untold_port self.new.count.faults)
             bytes.now result }
-
-        // Nothing but a failed call is counted.
-        ensures counted { IsFaultCounted self.old.count.faults self.new.count.faults
-            (IsErrOf result PutRefusal.Failed) }
     {
         match io::writer(self.runtime).write_all(bytes) {
             Ok(()) => Ok(()),

@@ -1,8 +1,8 @@
-// The traits of the outside. Each object counts its faults: a call answers Failed only where that count rose in the call.
+// The traits of the outside. Each object counts its faults: a call that answers Failed counts one, and no other call counts any.
 // Clauses on what an object holds say something only where it tells that. What a call isn't said to change stays as it was.
 ghost use Rattle.std.specs.Prelude.{◌≡◌, ◌⊎◌, IfOk, IsErrOf};
 ghost use Rattle.station_ports.specs.Views.{FilesView, PortView};
-ghost use Rattle.station_ports.specs.Calls.{HasCause, IsContent, IsTooLong, IsMissing, IsTaken, IsPut};
+ghost use Rattle.station_ports.specs.Calls.{IsFaultCounted, IsContent, IsTooLong, IsMissing, IsTaken, IsPut};
 
 use std::alloc::{AllocError, AllocFailed};
 
@@ -46,7 +46,7 @@ pub trait Files {
         ensures missing { IsMissing (view self.old) name.now →
             IsErrOf result FileRefusal.Failed ⊎ IsErrOf result FileRefusal.NoMemory }
         ensures same { (view self.new).contents ≡ (view self.old).contents }
-        ensures cause { HasCause (view self.old).faults (view self.new).faults
+        ensures cause { IsFaultCounted (view self.old).faults (view self.new).faults
             (IsErrOf result FileRefusal.Failed) };
 }
 
