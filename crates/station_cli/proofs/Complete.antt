@@ -9,7 +9,7 @@ use Rattle.station_ports.specs.declared.outside.PutRefusal.{PutRefusal}
 use Rattle.station_ports.specs.declared.outside.PutRefusal.TheVariants as refusal
 use Rattle.station_cli.specs.Words.{Command, check, command_of}
 use Rattle.station_cli.specs.Run.{World, Course, misused, checked, too_long, unread, out_of_memory, Happens, status_of, is_settled, max_file, after_fault, status_after, IsWork, IsWritten}
-use Rattle.station_cli.specs.Causes.{IsCalm, Completes, Ends, EndsTooLong, IsToldAbove}
+use Rattle.station_cli.specs.Causes.{IsCalm, Completes, Ends, EndsRead, IsToldAbove}
 use Rattle.station_cli.specs.declared.status.Status.{Status}
 use Rattle.station_cli.specs.declared.status.Status.TheVariants.{Clean, Open, Refused, Usage, ReadFault, WriteFault, NoMemory, TooLong}
 
@@ -92,7 +92,7 @@ not_within contents name other content text asked there holds above within =
     let long : content ≡ text = cc in
     omega (arith, ap length long)
 
-above_of : (asked : Option Command) (old new : World) (old_out new_out : PortView) (contents : List ℕ → Option (List ℕ)) (name content : List ℕ) (course : Course) (status ended : Status) (text : List ℕ) → asked ≡ Some (check name) → old.files.contents ≡ Some contents → contents name ≡ Some content → max_file < length content → Happens asked old new course → status ≡ status_of course → IsWritten old_out new_out status text ended → EndsTooLong old new old_out new_out ended
+above_of : (asked : Option Command) (old new : World) (old_out new_out : PortView) (contents : List ℕ → Option (List ℕ)) (name content : List ℕ) (course : Course) (status ended : Status) (text : List ℕ) → asked ≡ Some (check name) → old.files.contents ≡ Some contents → contents name ≡ Some content → max_file < length content → Happens asked old new course → status ≡ status_of course → IsWritten old_out new_out status text ended → EndsRead old new old_out new_out TooLong ended
 above_of asked old new old_out new_out contents name content misused status ended text a told there above h e put = let clash : Some (check name) ≡ None = sym a ∙ h.0 in cc
 above_of asked old new old_out new_out contents name content (checked other found made) status ended text a told there above h e put =
     absurd (not_within contents name other content found (sym a ∙ h.0) there (rw told at h.1.holds) above h.1.within)
@@ -100,6 +100,6 @@ above_of asked old new old_out new_out contents name content (too_long other) st
 above_of asked old new old_out new_out contents name content (unread other) status ended text a told there above h e put = inr (risen old.files.faults new.files.faults h.1, rw e at (ends put))
 above_of asked old new old_out new_out contents name content out_of_memory status ended text a told there above h e put = inl (inr (inr (ended_so ended put.answer (rw e at put.status_is))))
 
-pub above_ends : (words : List (List ℕ)) {old new : World} {status ended : Status} {text : List ℕ} {old_out new_out : PortView} → IsWork (command_of words) old new status text → IsWritten old_out new_out status text ended → IsToldAbove words old → EndsTooLong old new old_out new_out ended
+pub above_ends : (words : List (List ℕ)) {old new : World} {status ended : Status} {text : List ℕ} {old_out new_out : PortView} → IsWork (command_of words) old new status text → IsWritten old_out new_out status text ended → IsToldAbove words old → EndsRead old new old_out new_out TooLong ended
 above_ends words {old} {new} {status} {ended} {text} {old_out} {new_out} work put t =
     above_of (command_of words) old new old_out new_out t.contents t.name t.content work.course status ended text t.asked t.told t.there t.above work.cause work.status_is put

@@ -5,12 +5,14 @@ use Rattle.station_ports.specs.declared.outside.PutRefusal.{PutRefusal}
 use Rattle.station_ports.specs.declared.outside.PutRefusal.TheVariants as refusal
 use Rattle.station_ports.specs.Views.{PortView}
 use Rattle.station_ports.specs.Calls.{IsContent, IsTooLong}
+use Rattle.finding_spans.specs.declared.report.Verdict.{Verdict}
+use Rattle.finding_spans.specs.declared.report.Verdict.TheVariants as verdict
 use Rattle.finding_spans.specs.declared.report.Report.{Report}
 use Rattle.station_cli.specs.Words.{Command, check, command_of}
 use Rattle.station_cli.specs.Report.{IsReport}
 use Rattle.station_cli.specs.OneReport.{OneReport, OneCourse}
 use Rattle.station_cli.specs.Run.{World, Course, misused, checked, too_long, unread, out_of_memory, Happens, verdict_status, status_of, max_file, after_fault, status_after, IsWork, IsWritten}
-use Rattle.station_cli.specs.Causes.{Ends, IsReportedAs, IsToldReported, EndsReported}
+use Rattle.station_cli.specs.Causes.{Ends, IsReportedAs, IsToldReported, IsAboveLimit, EndsRead}
 use Rattle.station_cli.specs.declared.status.Status.{Status}
 use Rattle.station_cli.specs.declared.status.Status.TheVariants.{Clean, Open, Refused, Usage, ReadFault, WriteFault, NoMemory, TooLong}
 use Rattle.station_cli.proofs.Complete.{ends, ended_so, risen}
@@ -43,7 +45,7 @@ module _ (one : OneReport) (asked : Option Command) (old new : World) (old_out n
       let texts : found ≡ text = same_text old contents other name found text told names read content in
       one name text given made (subst (λ (n : List ℕ). IsReport n text given) names (subst (λ (t : List ℕ). IsReport other t given) texts h)) report
 
-  ends_reported : (course : Course) (status ended : Status) (line : List ℕ) → Happens asked old new course → status ≡ status_of course → IsWritten old_out new_out status line ended → EndsReported old new old_out new_out (verdict_status made.verdict) ended
+  ends_reported : (course : Course) (status ended : Status) (line : List ℕ) → Happens asked old new course → status ≡ status_of course → IsWritten old_out new_out status line ended → EndsRead old new old_out new_out (verdict_status made.verdict) ended
   ends_reported misused status ended line h e put = let clash : Some (check name) ≡ None = sym a ∙ h.0 in cc
   ends_reported (checked other found given) status ended line h e put =
       let same = same_report other found given (sym a ∙ h.0) h.1 h.2 in
@@ -53,9 +55,9 @@ module _ (one : OneReport) (asked : Option Command) (old new : World) (old_out n
   ends_reported out_of_memory status ended line h e put = inl (inr (inr (ended_so ended put.answer (rw e at put.status_is))))
 
 pub reported_ends : OneReport → (words : List (List ℕ)) {old new : World} {status ended : Status} {text : List ℕ} {old_out new_out : PortView} → IsWork (command_of words) old new status text → IsWritten old_out new_out status text ended
-    → (wanted : Status) → IsToldReported words old wanted → EndsReported old new old_out new_out wanted ended
+    → (wanted : Status) → IsToldReported words old wanted → EndsRead old new old_out new_out wanted ended
 reported_ends one words {old} {new} {status} {ended} {text} {old_out} {new_out} work put wanted t =
-    subst (λ (s : Status). EndsReported old new old_out new_out s ended) t.reported.status_is
+    subst (λ (s : Status). EndsRead old new old_out new_out s ended) t.reported.status_is
     (ends_reported one (command_of words) old new old_out new_out t.contents t.told t.reported.name t.reported.text t.reported.made t.reported.asked t.reported.content t.reported.report work.course status ended text work.cause work.status_is put)
 
 -- ---- what a status of a verdict says
@@ -101,6 +103,44 @@ pub status_reported : (words : List (List ℕ)) {old new : World} {status ended 
     → (wanted : Status) → ended ≡ wanted → is_of_verdict wanted ≡ true → IsReportedAs words old wanted
 status_reported words {old} {new} {status} {ended} {text} {old_out} {new_out} work put wanted e v =
     course_reported words old new work.course wanted work.cause (sym work.status_is ∙ status_kept status wanted put.answer (sym e ∙ put.status_is) v) v
+
+-- ---- a file above the limit
+
+abbrev is_long : Status → Bool
+is_long TooLong = true
+is_long other = false
+
+fault_is_short : (status : Status) → is_long (after_fault status) ≡ false
+fault_is_short NoMemory = refl
+fault_is_short Clean = refl
+fault_is_short Open = refl
+fault_is_short Refused = refl
+fault_is_short Usage = refl
+fault_is_short ReadFault = refl
+fault_is_short WriteFault = refl
+fault_is_short TooLong = refl
+
+verdict_is_short : (v : Verdict) → is_long (verdict_status v) ≡ false
+verdict_is_short verdict.Free = refl
+verdict_is_short (verdict.Alarms told) = refl
+verdict_is_short (verdict.Refused told) = refl
+
+long_kept : (status ended : Status) (answer : Result (Unit {0}) PutRefusal) → ended ≡ status_after status answer → ended ≡ TooLong → status ≡ TooLong
+long_kept status ended (Ok done) e v = sym e ∙ v
+long_kept status ended (Err refusal.NoMemory) e v = unsettled (ap is_long (sym e ∙ v))
+long_kept status ended (Err refusal.Failed) e v = unsettled (sym (fault_is_short status) ∙ ap is_long (sym e ∙ v))
+
+course_above : (words : List (List ℕ)) (old new : World) (course : Course) → Happens (command_of words) old new course → status_of course ≡ TooLong → IsAboveLimit words old
+course_above words old new misused h e = unsettled (ap is_long e)
+course_above words old new (checked name text made) h e = unsettled (sym (verdict_is_short made.verdict) ∙ ap is_long e)
+course_above words old new (too_long name) h e = record { name = name; asked = h.0; content = h.1 }
+course_above words old new (unread name) h e = unsettled (ap is_long e)
+course_above words old new out_of_memory h e = unsettled (ap is_long e)
+
+pub status_above : (words : List (List ℕ)) {old new : World} {status ended : Status} {text : List ℕ} {old_out new_out : PortView} → IsWork (command_of words) old new status text → IsWritten old_out new_out status text ended
+    → ended ≡ TooLong → IsAboveLimit words old
+status_above words {old} {new} {status} {ended} {text} {old_out} {new_out} work put v =
+    course_above words old new work.course work.cause (sym work.status_is ∙ long_kept status ended put.answer put.status_is v)
 
 -- ---- one course
 

@@ -9,7 +9,7 @@ use Rattle.station_cli.specs.Words.{check, command_of}
 use Rattle.station_cli.specs.Report.{IsReport}
 use Rattle.station_cli.specs.Run.{World, Course, Happens, max_file, verdict_status, status_of, text_of, is_settled}
 use Rattle.station_cli.specs.declared.status.Status.{Status}
-use Rattle.station_cli.specs.declared.status.Status.TheVariants.{NoMemory, WriteFault, ReadFault, TooLong}
+use Rattle.station_cli.specs.declared.status.Status.TheVariants.{NoMemory, WriteFault, ReadFault}
 
 -- the words name a file that is above the limit, where the files tell
 pub record IsAboveLimit (words : List (List ℕ)) (old : World) : Type 0 where
@@ -48,14 +48,9 @@ abbrev pub Ends : Status → PortView → PortView → Status → Type 0
 Ends status old_out new_out ended =
     (ended ≡ status) ⊎ (((ended ≡ WriteFault) × Rose old_out.faults new_out.faults) ⊎ (ended ≡ NoMemory))
 
--- What a file above the limit is answered: so, unless reading it failed.
-abbrev pub EndsTooLong : World → World → PortView → PortView → Status → Type 0
-EndsTooLong old new old_out new_out ended =
-    Ends TooLong old_out new_out ended ⊎ (Rose old.files.faults new.files.faults × Ends ReadFault old_out new_out ended)
-
--- How a file within the limit is answered: with this status, unless reading it failed.
-abbrev pub EndsReported : World → World → PortView → PortView → Status → Status → Type 0
-EndsReported old new old_out new_out status ended =
+-- How a file is answered: with this status, unless reading it failed.
+abbrev pub EndsRead : World → World → PortView → PortView → Status → Status → Type 0
+EndsRead old new old_out new_out status ended =
     Ends status old_out new_out ended ⊎ (Rose old.files.faults new.files.faults × Ends ReadFault old_out new_out ended)
 
 -- no count rose in the call

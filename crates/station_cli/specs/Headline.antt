@@ -33,7 +33,8 @@ use Rattle.station_cli.specs.declared.status.Status.TheVariants.{Clean, Open}
 
 -- ---- the program of a text, and what a report says of a run
 
--- A component that a text defines: that of the one program that its tokens spell. (They differ in the order of their literals alone.)
+-- A component that a text defines: that of the one program that its tokens spell. (They differ
+-- in the order and number of their literals and in how their code lies in memory.)
 pub record IsProgram (text : List ℕ) (component : Component) : Type 0 where
   pub tokens : List Token
   pub tree : SourceTree

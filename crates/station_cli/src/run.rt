@@ -5,7 +5,7 @@ ghost use Rattle.report_text.specs.Text as report_text;
 ghost use Rattle.station_cli.specs.Words.{check, command_of};
 ghost use Rattle.station_cli.specs.Run.{IsRun, IsWork, IsWritten, AtMostOne, verdict_status};
 ghost use Rattle.station_cli.specs.Headline.{FreeIsSafe, AlarmsCover, IsReportedSafe, IsReportedCovered};
-ghost use Rattle.station_cli.specs.Causes.{Completes, IsReportedAs, IsToldReported, EndsReported, IsAboveLimit, IsToldAbove, Ends, EndsTooLong};
+ghost use Rattle.station_cli.specs.Causes.{Completes, IsReportedAs, IsToldReported, EndsRead, IsAboveLimit, IsToldAbove, Ends};
 
 use crate::law::one_report;
 use crate::report::report_on;
@@ -57,12 +57,12 @@ pub fn run<F: Files, S: Sink, L: Ledger>(
     ensures open { result ≡ Status.Open → IsReportedCovered (map string_bytes words.now) (record { files = F.view files.old }) }
     ensures refused { result ≡ Status.Refused → IsReportedAs (map string_bytes words.now) (record { files = F.view files.old }) Status.Refused }
     ensures reported { (status : Status) → IsToldReported (map string_bytes words.now) (record { files = F.view files.old }) status →
-        EndsReported (record { files = F.view files.old }) (record { files = F.view files.new }) (S.view out.old) (S.view out.new) status result }
+        EndsRead (record { files = F.view files.old }) (record { files = F.view files.new }) (S.view out.old) (S.view out.new) status result }
     ensures usage { result ≡ Status.Usage → command_of (map string_bytes words.now) ≡ None }
     ensures misused { command_of (map string_bytes words.now) ≡ None → Ends Status.Usage (S.view out.old) (S.view out.new) result }
     ensures too_long { result ≡ Status.TooLong → IsAboveLimit (map string_bytes words.now) (record { files = F.view files.old }) }
     ensures above { IsToldAbove (map string_bytes words.now) (record { files = F.view files.old }) →
-        EndsTooLong (record { files = F.view files.old }) (record { files = F.view files.new }) (S.view out.old) (S.view out.new) result }
+        EndsRead (record { files = F.view files.old }) (record { files = F.view files.new }) (S.view out.old) (S.view out.new) Status.TooLong result }
     ensures read_fault { result ≡ Status.ReadFault → Rose (F.view files.old).faults (F.view files.new).faults }
     ensures write_fault { result ≡ Status.WriteFault → Rose (S.view out.old).faults (S.view out.new).faults }
 {
