@@ -22,7 +22,7 @@ settled : (asked : Option Command) (old new : World) (old_out new_out : PortView
 settled asked old new old_out new_out misused calm h = inr refl
 settled asked old new old_out new_out (checked name text made) calm h = inr refl
 settled asked old new old_out new_out (too_long name) calm h = inr refl
-settled asked old new old_out new_out (unread name) calm h = absurd (calm.files (risen old.files.faults new.files.faults h.1))
+settled asked old new old_out new_out (unread name) calm h = absurd (calm.files (risen old.files.faults new.files.faults h.1.counted))
 settled asked old new old_out new_out out_of_memory calm h = inl refl
 
 -- the line was put, or there was no memory
@@ -97,7 +97,7 @@ above_of asked old new old_out new_out contents name content misused status ende
 above_of asked old new old_out new_out contents name content (checked other found made) status ended text a told there above h e put =
     absurd (not_within contents name other content found (sym a ∙ h.0) there (rw told at h.1.holds) above h.1.within)
 above_of asked old new old_out new_out contents name content (too_long other) status ended text a told there above h e put = inl (rw e at (ends put))
-above_of asked old new old_out new_out contents name content (unread other) status ended text a told there above h e put = inr (risen old.files.faults new.files.faults h.1, rw e at (ends put))
+above_of asked old new old_out new_out contents name content (unread other) status ended text a told there above h e put = inr (risen old.files.faults new.files.faults h.1.counted, rw e at (ends put))
 above_of asked old new old_out new_out contents name content out_of_memory status ended text a told there above h e put = inl (inr (inr (ended_so ended put.answer (rw e at put.status_is))))
 
 pub above_ends : (words : List (List ℕ)) {old new : World} {status ended : Status} {text : List ℕ} {old_out new_out : PortView} → IsWork (command_of words) old new status text → IsWritten old_out new_out status text ended → IsToldAbove words old → EndsRead old new old_out new_out TooLong ended

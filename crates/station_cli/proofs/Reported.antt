@@ -51,7 +51,7 @@ module _ (one : OneReport) (asked : Option Command) (old new : World) (old_out n
       let same = same_report other found given (sym a ∙ h.0) h.1 h.2 in
       inl (subst (λ (s : Status). Ends s old_out new_out ended) (e ∙ ap (λ (r : Report). verdict_status r.verdict) same) (ends put))
   ends_reported (too_long other) status ended line h e put = absurd (within_limit old contents name other text told (same_name name other (sym a ∙ h.0)) content h.1)
-  ends_reported (unread other) status ended line h e put = inr (risen old.files.faults new.files.faults h.1, rw e at (ends put))
+  ends_reported (unread other) status ended line h e put = inr (risen old.files.faults new.files.faults h.1.counted, rw e at (ends put))
   ends_reported out_of_memory status ended line h e put = inl (inr (inr (ended_so ended put.answer (rw e at put.status_is))))
 
 pub reported_ends : OneReport → (words : List (List ℕ)) {old new : World} {status ended : Status} {text : List ℕ} {old_out new_out : PortView} → IsWork (command_of words) old new status text → IsWritten old_out new_out status text ended

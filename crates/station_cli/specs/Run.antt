@@ -3,7 +3,7 @@
 -- Source: this profile. The code works through the words, the file, the report and the put in this order.
 use Rattle.std.specs.Prelude.{◌≡◌, ◌⊎◌, ℕ, ◌++◌, List, Option, Some, None, Result, Ok, Err, codes, Bool, true, false}
 use Rattle.station_ports.specs.Views.{FilesView, PortView}
-use Rattle.station_ports.specs.Calls.{IsNextCount, IsContent, IsTooLong, IsPut}
+use Rattle.station_ports.specs.Calls.{IsNextCount, IsCalled, IsContent, IsTooLong, IsPut}
 use Rattle.station_ports.specs.declared.outside.PutRefusal.{PutRefusal}
 use Rattle.station_ports.specs.declared.outside.PutRefusal.TheVariants as put
 use Rattle.finding_spans.specs.declared.report.Verdict.{Verdict}
@@ -35,17 +35,32 @@ pub data Course : Type 0 where
   -- there was no memory
   out_of_memory : Course
 
--- no fault was counted, or one
-abbrev pub AtMostOne : ℕ → ℕ → Type 0
-AtMostOne before now = (now ≡ before) ⊎ IsNextCount before now
+-- the files were called once, which failed
+pub record IsFailedCall (old new : FilesView) : Type 0 where
+  pub called : IsCalled old.calls new.calls
+  pub counted : IsNextCount old.faults new.faults
 
--- The cause of each course, of what the words ask for. The files count one fault where they failed, and else none.
+-- the files were called once, which didn't fail
+pub record IsGoodCall (old new : FilesView) : Type 0 where
+  pub called : IsCalled old.calls new.calls
+  pub counted : new.faults ≡ old.faults
+
+-- the files were not called
+pub record IsNoCall (old new : FilesView) : Type 0 where
+  pub called : new.calls ≡ old.calls
+  pub counted : new.faults ≡ old.faults
+
+-- the files were called once at most
+abbrev pub AtMostOnce : FilesView → FilesView → Type 0
+AtMostOnce old new = IsNoCall old new ⊎ (IsGoodCall old new ⊎ IsFailedCall old new)
+
+-- The cause of each course, of what the words ask for, and how often the files were called.
 abbrev pub Happens : Option Command → World → World → Course → Type 0
 Happens asked old new misused = (asked ≡ None) × (new ≡ old)
-Happens asked old new (checked name text made) = (asked ≡ Some (check name)) × IsContent old.files name max_file text × IsReport name text made × (new.files.faults ≡ old.files.faults)
-Happens asked old new (too_long name) = (asked ≡ Some (check name)) × IsTooLong old.files name max_file × (new.files.faults ≡ old.files.faults)
-Happens asked old new (unread name) = (asked ≡ Some (check name)) × IsNextCount old.files.faults new.files.faults
-Happens asked old new out_of_memory = AtMostOne old.files.faults new.files.faults
+Happens asked old new (checked name text made) = (asked ≡ Some (check name)) × IsContent old.files name max_file text × IsReport name text made × IsGoodCall old.files new.files
+Happens asked old new (too_long name) = (asked ≡ Some (check name)) × IsTooLong old.files name max_file × IsGoodCall old.files new.files
+Happens asked old new (unread name) = (asked ≡ Some (check name)) × IsFailedCall old.files new.files
+Happens asked old new out_of_memory = AtMostOnce old.files new.files
 
 -- The work came to its end: neither a fault nor want of memory cut it short.
 abbrev pub is_settled : Course → Bool

@@ -3,7 +3,7 @@ ghost use Rattle.std.specs.Prelude.{◌≡◌, List, ℕ, ◌++◌, Some, None, 
 ghost use Rattle.station_ports.specs.Calls.{Rose};
 ghost use Rattle.report_text.specs.Text as report_text;
 ghost use Rattle.station_cli.specs.Words.{check, command_of};
-ghost use Rattle.station_cli.specs.Run.{IsRun, IsWork, IsWritten, AtMostOne, verdict_status};
+ghost use Rattle.station_cli.specs.Run.{IsRun, IsWork, IsWritten, AtMostOnce, verdict_status};
 ghost use Rattle.station_cli.specs.Headline.{FreeIsSafe, AlarmsCover, IsReportedSafe, IsReportedCovered};
 ghost use Rattle.station_cli.specs.Causes.{Completes, IsReportedAs, IsToldReported, EndsRead, IsAboveLimit, IsToldAbove, Ends};
 
@@ -109,7 +109,7 @@ fn work<F: Files, L: Ledger>(
     ensures work { IfOk result (λ reply. IsWork (command_of (map string_bytes words.now))
         (record { files = F.view files.old }) (record { files = F.view files.new }) reply.status reply.text.items) }
     ensures same { (F.view files.new).contents ≡ (F.view files.old).contents }
-    ensures faults { AtMostOne (F.view files.old).faults (F.view files.new).faults }
+    ensures calls { AtMostOnce (F.view files.old) (F.view files.new) }
 {
     match read_words(words) {
         None => Ok(Reply {
@@ -134,7 +134,7 @@ fn check_file<F: Files, L: Ledger>(
     ensures work { IfOk result (λ reply. IsWork (Some (check name.now))
         (record { files = F.view files.old }) (record { files = F.view files.new }) reply.status reply.text.items) }
     ensures same { (F.view files.new).contents ≡ (F.view files.old).contents }
-    ensures faults { AtMostOne (F.view files.old).faults (F.view files.new).faults }
+    ensures calls { AtMostOnce (F.view files.old) (F.view files.new) }
 {
     match files.read(name, MAX_TEXT) {
         Ok(bytes) => {

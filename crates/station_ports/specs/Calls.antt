@@ -1,5 +1,5 @@
 -- What each call of the outside does to what contracts see: this product's own rules, which every form of the outside meets.
-use Rattle.std.specs.Prelude.{◌≡◌, ℕ, ◌+◌, ◌-◌, ◌^◌, ◌<◌, ◌≤◌, min, List, length, take, Option, Some, None, Result, Ok, Err, IsSomeAnd, IfSome, IsErr}
+use Rattle.std.specs.Prelude.{◌≡◌, ℕ, ◌+◌, ◌-◌, ◌^◌, ◌<◌, ◌≤◌, min, List, length, take, Option, Some, None, Result, Ok, Err, IsSomeAnd, IfSome, IsErr, option_map}
 use Rattle.std.specs.Io.{ReadsAtMost}
 use Rattle.std.specs.Io.KnownBytes.{Appends, ReadConsumes}
 use Rattle.station_ports.specs.Views.{FilesView, PortView}
@@ -13,6 +13,10 @@ Rose before now = min (before + 1) (2 ^ 64 - 1) ≤ now
 -- the count rose by one, or stands at its counter's last value
 abbrev pub IsNextCount : ℕ → ℕ → Type 0
 IsNextCount before now = now ≡ min (before + 1) (2 ^ 64 - 1)
+
+-- one call more, where the object tells
+abbrev pub IsCalled : Option ℕ → Option ℕ → Type 0
+IsCalled before now = now ≡ option_map (λ count. min (count + 1) (2 ^ 64 - 1)) before
 
 -- A call counts itself where it failed, and nothing else.
 pub record IsFaultCounted (before now : ℕ) (Failed : Type 0) : Type 0 where
@@ -43,6 +47,7 @@ pub record IsTaken {F : Type 0} (old new : PortView) (into : List ℕ) (answer :
   pub count : ReadsAtMost answer into
   pub bytes : ReadConsumes old.left new.left answer into
   pub same : new.sent ≡ old.sent
+  pub called : IsCalled old.calls new.calls
   pub cause : IsFaultCounted old.faults new.faults (IsErr answer)
 
 -- the first n of these bytes were appended, where the object tells
@@ -60,4 +65,5 @@ Puts old new bytes (Err NoMemory) = (n : ℕ) × IsCutAt old new bytes n × (n �
 pub record IsPut (old new : PortView) (bytes : List ℕ) (answer : Result (Unit {0}) PutRefusal) : Type 0 where
   pub bytes_put : Puts old.sent new.sent bytes answer
   pub same : new.left ≡ old.left
+  pub called : IsCalled old.calls new.calls
   pub cause : IsFaultCounted old.faults new.faults (answer ≡ Err Failed)

@@ -1,7 +1,7 @@
 // Forms in memory, which tell what they hold. They fail in the calls whose numbers are listed, counted from 1 over all calls of
 // the object, and where a name isn't there.
 ghost use Rattle.std.specs.Prelude.{◌≡◌, ◌≤◌, ◌<◌, ◌⊎◌, ◌↔◌, Some, None, IfOk, IsErr, IsErrOf, MatchOption, [], length};
-ghost use Rattle.station_ports.specs.Calls.{IsFaultCounted, IsContent, IsTooLong, IsMissing, IsTaken, IsPut};
+ghost use Rattle.station_ports.specs.Calls.{IsFaultCounted, IsContent, IsTooLong, IsMissing, IsTaken, IsPut, IsCalled};
 ghost use Rattle.station_ports.specs.Faults.{IsListed, IsCallCounted};
 ghost use Rattle.station_ports.specs.Memory.{NamesDiffer, content_of};
 
@@ -31,7 +31,7 @@ impl MemoryFiles {
     pub fn of(alloc: Global, list: Vec<FileBytes>, failing: Vec<u64>) -> Self
         requires { NamesDiffer list.items }
         ensures view { ⟦<MemoryFiles as Files>⟧.view result ≡
-            record { faults = 0; contents = Some (content_of list.items) } }
+            record { calls = Some 0; faults = 0; contents = Some (content_of list.items) } }
         ensures failing { result.failing.numbers.items ≡ failing.items }
         ensures calls { result.failing.calls ≡ 0 }
     {
@@ -45,6 +45,7 @@ impl MemoryFiles {
 
 impl Files for MemoryFiles {
     ghost view = { λ m. record {
+      calls = Some m.failing.calls;
       faults = m.failing.count.faults;
       contents = Some (content_of m.entries.items);
     } };
@@ -58,6 +59,7 @@ impl Files for MemoryFiles {
             IsErrOf result FileRefusal.Failed ⊎ IsErrOf result FileRefusal.NoMemory }
         ensures same { (⟦<MemoryFiles as Files>⟧.view self.new).contents ≡
             (⟦<MemoryFiles as Files>⟧.view self.old).contents }
+        ensures called { IsCalled (⟦<MemoryFiles as Files>⟧.view self.old).calls (⟦<MemoryFiles as Files>⟧.view self.new).calls }
         ensures cause { IsFaultCounted (⟦<MemoryFiles as Files>⟧.view self.old).faults
             (⟦<MemoryFiles as Files>⟧.view self.new).faults (IsErrOf result FileRefusal.Failed) }
 
@@ -120,7 +122,7 @@ impl MemorySource {
     /// A source of these bytes. Takes no memory.
     pub fn of(bytes: Vec<u8>, failing: Vec<u64>) -> Self
         ensures view { ⟦<MemorySource as Port>⟧.view result ≡
-            record { faults = 0; left = Some bytes.items; sent = None } }
+            record { calls = Some 0; faults = 0; left = Some bytes.items; sent = None } }
         ensures failing { result.failing.numbers.items ≡ failing.items }
         ensures calls { result.failing.calls ≡ 0 }
     {
@@ -133,6 +135,7 @@ impl MemorySource {
 
 impl Port for MemorySource {
     ghost view = { λ m. record {
+      calls = Some m.failing.calls;
       faults = m.failing.count.faults;
       left = ⟦<Cursor<Vec<u8>> as Read>⟧.remaining m.bytes;
       sent = None;
@@ -169,7 +172,7 @@ impl MemorySink {
     /// A sink on which nothing was put. Takes no memory.
     pub fn of(alloc: Global, failing: Vec<u64>) -> Self
         ensures view { ⟦<MemorySink as Port>⟧.view result ≡
-            record { faults = 0; left = None; sent = Some [] } }
+            record { calls = Some 0; faults = 0; left = None; sent = Some [] } }
         ensures failing { result.failing.numbers.items ≡ failing.items }
         ensures calls { result.failing.calls ≡ 0 }
     {
@@ -188,7 +191,7 @@ impl MemorySink {
 }
 
 impl Port for MemorySink {
-    ghost view = { λ m. record { faults = m.failing.count.faults; left = None; sent = Some m.bytes.items } };
+    ghost view = { λ m. record { calls = Some m.failing.calls; faults = m.failing.count.faults; left = None; sent = Some m.bytes.items } };
 }
 
 impl Sink for MemorySink {

@@ -2,7 +2,7 @@
 // system gives and takes.
 ghost use Rattle.std.specs.Prelude.{◌≡◌, ◌⊎◌, IfOk, IsErrOf};
 ghost use Rattle.station_ports.specs.Views.{untold_files, untold_port};
-ghost use Rattle.station_ports.specs.Calls.{IsFaultCounted, IsContent, IsTooLong, IsMissing, IsPut};
+ghost use Rattle.station_ports.specs.Calls.{IsFaultCounted, IsContent, IsTooLong, IsMissing, IsPut, IsCalled};
 
 use crate::faults::FaultCount;
 use crate::outside::{FileRefusal, Files, Port, PutRefusal, Sink};
@@ -40,6 +40,7 @@ impl<R: rt::Files + AllocGlobal> Files for OsFiles<'_, R> {
             IsErrOf result FileRefusal.Failed ⊎ IsErrOf result FileRefusal.NoMemory }
         ensures same { (untold_files self.new.count.faults).contents ≡
             (untold_files self.old.count.faults).contents }
+        ensures called { IsCalled (untold_files self.old.count.faults).calls (untold_files self.new.count.faults).calls }
         ensures cause { IsFaultCounted self.old.count.faults self.new.count.faults
             (IsErrOf result FileRefusal.Failed) }
     {

@@ -2,7 +2,7 @@
 // Clauses on what an object holds say something only where it tells that. What a call isn't said to change stays as it was.
 ghost use Rattle.std.specs.Prelude.{◌≡◌, ◌⊎◌, IfOk, IsErrOf};
 ghost use Rattle.station_ports.specs.Views.{FilesView, PortView};
-ghost use Rattle.station_ports.specs.Calls.{IsFaultCounted, IsContent, IsTooLong, IsMissing, IsTaken, IsPut};
+ghost use Rattle.station_ports.specs.Calls.{IsFaultCounted, IsContent, IsTooLong, IsMissing, IsTaken, IsPut, IsCalled};
 
 use std::alloc::{AllocError, AllocFailed};
 
@@ -46,6 +46,7 @@ pub trait Files {
         ensures missing { IsMissing (view self.old) name.now →
             IsErrOf result FileRefusal.Failed ⊎ IsErrOf result FileRefusal.NoMemory }
         ensures same { (view self.new).contents ≡ (view self.old).contents }
+        ensures called { IsCalled (view self.old).calls (view self.new).calls }
         ensures cause { IsFaultCounted (view self.old).faults (view self.new).faults
             (IsErrOf result FileRefusal.Failed) };
 }

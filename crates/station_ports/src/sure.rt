@@ -1,4 +1,4 @@
-// Forms in memory that never fail: their count is the constant 0.
+// Forms in memory that never fail: their count of faults is the constant 0. They don't tell how often they were called.
 ghost use Rattle.std.specs.Prelude.{◌≡◌, Some, None, []};
 ghost use Rattle.station_ports.specs.Memory.{NamesDiffer, content_or_empty};
 
@@ -19,7 +19,7 @@ impl SureFiles {
     pub fn of(alloc: Global, list: Vec<FileBytes>) -> Self
         requires { NamesDiffer list.items }
         ensures { ⟦<SureFiles as Files>⟧.view result ≡
-            record { faults = 0; contents = Some (content_or_empty list.items) } }
+            record { calls = None; faults = 0; contents = Some (content_or_empty list.items) } }
     {
         SureFiles {
             alloc,
@@ -29,7 +29,7 @@ impl SureFiles {
 }
 
 impl Files for SureFiles {
-    ghost view = { λ m. record { faults = 0; contents = Some (content_or_empty m.entries.items) } };
+    ghost view = { λ m. record { calls = None; faults = 0; contents = Some (content_or_empty m.entries.items) } };
 
     fn read(&mut self, name: &str, limit: usize) -> Result<Vec<u8>, FileRefusal> {
         copy_within(self.alloc, find_or_empty(&self.entries, name), limit)
@@ -56,7 +56,7 @@ impl SureSource {
     /// A source of these bytes. Takes no memory.
     pub fn of(bytes: Vec<u8>) -> Self
         ensures { ⟦<SureSource as Port>⟧.view result ≡
-            record { faults = 0; left = Some bytes.items; sent = None } }
+            record { calls = None; faults = 0; left = Some bytes.items; sent = None } }
     {
         SureSource {
             bytes: Cursor::new(bytes),
@@ -66,6 +66,7 @@ impl SureSource {
 
 impl Port for SureSource {
     ghost view = { λ m. record {
+      calls = None;
       faults = 0;
       left = ⟦<Cursor<Vec<u8>> as Read>⟧.remaining m.bytes;
       sent = None;
@@ -91,7 +92,7 @@ impl SureSink {
     /// A sink on which nothing was put. Takes no memory.
     pub fn of(alloc: Global) -> Self
         ensures { ⟦<SureSink as Port>⟧.view result ≡
-            record { faults = 0; left = None; sent = Some [] } }
+            record { calls = None; faults = 0; left = None; sent = Some [] } }
     {
         SureSink {
             bytes: Vec::new(alloc),
@@ -107,7 +108,7 @@ impl SureSink {
 }
 
 impl Port for SureSink {
-    ghost view = { λ m. record { faults = 0; left = None; sent = Some m.bytes.items } };
+    ghost view = { λ m. record { calls = None; faults = 0; left = None; sent = Some m.bytes.items } };
 }
 
 impl Sink for SureSink {
