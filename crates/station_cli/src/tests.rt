@@ -322,7 +322,7 @@ fn words(rt: HostRuntime) -> Result<(), Fail> {
     ];
     for words in misused {
         let found = result_over(&rt, words, b"", &[], &[])?;
-        assert_eq!(rt; found.status, Status::Usage);
+        assert_eq!(rt; found.status, Status::Usage, "{words:?}");
         assert_eq!(rt;
             found.output.as_slice(),
             b"USAGE check serve import-waivers export-findings generate\n".as_slice()
@@ -381,8 +381,13 @@ fn failing_calls(rt: HostRuntime) -> Result<(), Fail> {
     assert_eq!(rt; put.output.as_slice(), b"".as_slice());
     let both = result_over(&rt, &CHECK, text, &[1], &[1])?;
     assert_eq!(rt; both.status, Status::WriteFault);
+    assert_eq!(rt; both.output.as_slice(), b"".as_slice());
     let later = result_over(&rt, &CHECK, text, &[2], &[2])?;
     assert_eq!(rt; later.status, Status::Clean);
+    assert_eq!(rt;
+        later.output.as_slice(),
+        b"VERDICT FREE\nEND open 0 waived 0\n".as_slice()
+    );
     assert_eq!(rt; later.parsed, 3);
     assert_eq!(rt; later.solved, 1);
     Ok(())
