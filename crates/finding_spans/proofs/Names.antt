@@ -14,7 +14,8 @@ use Rattle.st_tree.specs.Nodes.{CountsFrom, name_node, decl_nodes}
 use Rattle.finding_spans.specs.Places.{Holder, has_number, alone, name_holders, decl_holders, holds, last_of}
 use Rattle.finding_spans.specs.Searches.{IsAmong}
 use Rattle.finding_spans.proofs.Points.{point_is, rising_cons}
-use Rattle.finding_spans.proofs.Numbers.{counts_left, has_in, has_not, contains_cases}
+use Rattle.st_tree.proofs.Parts.{counts_left}
+use Rattle.finding_spans.proofs.Numbers.{has_in, has_not, contains_cases}
 use Rattle.finding_spans.proofs.Parts.{has_append}
 
 pub filter_yes : {X : Type 0} (p : X → Bool) (x : X) (xs : List X) → p x ≡ true → filter p (x ∷ xs) ≡ x ∷ filter p xs

@@ -13,7 +13,8 @@ use Rattle.st_tree.specs.declared.tree.SourceTree.{SourceTree}
 use Rattle.st_tree.specs.Nodes.{CountsFrom, IsNumbered, stmt_nodes, decl_nodes, section_nodes, unit_nodes, nodes_of}
 use Rattle.finding_spans.specs.Places.{has_number}
 use Rattle.finding_spans.specs.Searches.{IsAmong}
-use Rattle.finding_spans.proofs.Numbers.{counts_left, counts_right, has_in, has_from, has_of_numbers}
+use Rattle.st_tree.proofs.Parts.{counts_left, counts_right}
+use Rattle.finding_spans.proofs.Numbers.{has_in, has_from, has_of_numbers}
 use Rattle.finding_spans.proofs.Parts.{has_append, has_part, found, part_of}
 
 -- The nodes are numbered one after the other, and none of the numbers up to that one lies past them.

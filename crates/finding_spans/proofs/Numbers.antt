@@ -1,21 +1,12 @@
 -- Nodes that are numbered one after the other.
-use Rattle.std.proofs.Common.{◌≡◌, ◌⊎◌, ℕ, zero, suc, ◌+◌, ◌<◌, ◌≤◌, true, false, List, [], ◌∷◌, ◌++◌, length, ap, sym, subst, inl, inr, add-zero, arith}
+use Rattle.std.proofs.Common.{◌≡◌, ◌⊎◌, ℕ, zero, suc, ◌+◌, ◌<◌, ◌≤◌, true, false, List, [], ◌∷◌, ◌++◌, length, ap, inl, inr, arith}
 use Rattle.std.proofs.lemmas.Bool.{false≢true, or_cases, or_left, or_right, eqb-true, eq-eqb, cases_eq, false_from_ne_true}
 use Rattle.std.specs.Prelude.{map, Contains, nat_eq}
 use Rattle.st_tree.specs.declared.node.Node.{Node}
 use Rattle.st_tree.specs.declared.node.NodeNo.{NodeNo}
 use Rattle.st_tree.specs.Nodes.{CountsFrom}
+use Rattle.st_tree.proofs.Parts.{counts_left, counts_right}
 use Rattle.finding_spans.specs.Places.{has_number}
-
-pub counts_left : (n : ℕ) (xs ys : List Node) → CountsFrom n (xs ++ ys) → CountsFrom n xs
-counts_left n [] ys h = tt
-counts_left n (x ∷ xs) ys h = (h.0, counts_left (suc n) xs ys h.1)
-
-pub counts_right : (n : ℕ) (xs ys : List Node) → CountsFrom n (xs ++ ys) → CountsFrom (n + length xs) ys
-counts_right n [] ys h = subst (λ m. CountsFrom m ys) (sym (add-zero n)) h
-counts_right n (x ∷ xs) ys h =
-    let e : suc n + length xs ≡ n + length (x ∷ xs) = omega arith in
-    subst (λ m. CountsFrom m ys) e (counts_right (suc n) xs ys h.1)
 
 -- the numbers of a list are those from its first one on
 pub has_in : (n : ℕ) (number : NodeNo) (xs : List Node) → CountsFrom n xs → has_number number xs ≡ true → (n ≤ number.0) × (number.0 < n + length xs)

@@ -15,7 +15,8 @@ use Rattle.st_tree.specs.Nodes.{CountsFrom}
 use Rattle.finding_spans.specs.Places.{Holder, has_number, holds}
 use Rattle.finding_spans.specs.Searches.{IsAmong, last_of_first}
 use Rattle.finding_spans.proofs.Points.{point_is, rising_cons}
-use Rattle.finding_spans.proofs.Numbers.{counts_left, counts_right, has_from, has_not, has_beyond, apart, contains_cases}
+use Rattle.st_tree.proofs.Parts.{counts_left, counts_right}
+use Rattle.finding_spans.proofs.Numbers.{has_from, has_not, has_beyond, apart, contains_cases}
 
 pub has_append : (number : NodeNo) (xs ys : List Node) (b c : Bool) → has_number number xs ≡ b → has_number number ys ≡ c → has_number number (xs ++ ys) ≡ (b || c)
 has_append number xs ys b c d e = list_any-append (λ node. nat_eq node.number.0 number.0) xs ys ∙ ap (λ (v : Bool). v || has_number number ys) d ∙ ap (λ (v : Bool). b || v) e

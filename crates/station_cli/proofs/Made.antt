@@ -21,7 +21,8 @@ use Rattle.finding_spans.specs.declared.report.Refusal.{Refusal}
 use Rattle.finding_spans.specs.declared.report.Report.{Report}
 use Rattle.finding_spans.specs.declared.report.Verdict.TheVariants as verdict
 use Rattle.task_config.specs.Plan.{IsComponent, IsTask}
-use Rattle.task_config.proofs.Apart.{counts_left, counts_right, one_node, operators_apart}
+use Rattle.st_tree.proofs.Parts.{counts_left, counts_right}
+use Rattle.task_config.proofs.Apart.{one_node, operators_apart}
 use Rattle.task_config.proofs.Held.{IsHeld, operators_held}
 use Rattle.cycle_analysis.specs.declared.solution.Solution.{Solution}
 use Rattle.cycle_analysis.specs.Pass.{Reached}

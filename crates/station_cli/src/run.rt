@@ -1,5 +1,5 @@
 // The program over any files and any output.
-ghost use Rattle.std.specs.Prelude.{◌≡◌, List, ℕ, ◌++◌, Some, None, IfOk, [], ◌∷◌, map, string_bytes, codes};
+ghost use Rattle.std.specs.Prelude.{◌≡◌, ◌++◌, Some, None, IfOk, [], ◌∷◌, map, string_bytes, codes};
 ghost use Rattle.station_ports.specs.Calls.{Rose};
 ghost use Rattle.report_text.specs.Text as report_text;
 ghost use Rattle.station_cli.specs.Words.{check, command_of};

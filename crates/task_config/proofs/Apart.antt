@@ -1,5 +1,5 @@
 -- No two operators of a body are at one node.
-use Rattle.std.proofs.Common.{◌≡◌, ℕ, suc, ◌+◌, ◌<◌, ◌≤◌, Bool, false, List, [], ◌∷◌, ◌++◌, length, eqb, add-zero, sym, subst, arith}
+use Rattle.std.proofs.Common.{◌≡◌, ℕ, suc, ◌+◌, ◌<◌, ◌≤◌, Bool, false, List, [], ◌∷◌, ◌++◌, length, eqb, subst, arith}
 use Rattle.std.specs.Prelude.{flat_map}
 use Rattle.std.specs.List.{IsDistinct, AllByRecursion}
 use Rattle.std.proofs.lemmas.Bool.{eqb-true, false_from_ne_true}
@@ -11,16 +11,9 @@ use Rattle.st_tree.specs.declared.tree.Expr.TheVariants as expr
 use Rattle.st_tree.specs.declared.tree.Stmt.{Stmt}
 use Rattle.st_tree.specs.declared.tree.Stmt.TheVariants.{Assign}
 use Rattle.st_tree.specs.Nodes.{expr_nodes, path_nodes, stmt_nodes, CountsFrom}
+use Rattle.st_tree.proofs.Parts.{counts_left, counts_right}
 use Rattle.task_config.proofs.Operators.{expr_operators, stmt_operators}
 use Rattle.task_config.proofs.Lists.{all_weaker, all_append}
-
-pub counts_left : (n : ℕ) (xs ys : List Node) → CountsFrom n (xs ++ ys) → CountsFrom n xs
-counts_left n [] ys h = tt
-counts_left n (x ∷ xs) ys h = (h.0, counts_left (suc n) xs ys h.1)
-
-pub counts_right : (n : ℕ) (xs ys : List Node) → CountsFrom n (xs ++ ys) → CountsFrom (n + length xs) ys
-counts_right n [] ys h = subst (λ m. CountsFrom m ys) (sym (add-zero n)) h
-counts_right n (x ∷ xs) ys h = let e : suc n + length xs ≡ n + length (x ∷ xs) = omega arith in subst (λ m. CountsFrom m ys) e (counts_right (suc n) xs ys h.1)
 
 distinct_append : (eq : Site → Site → Bool) (xs ys : List Site) → IsDistinct eq xs → IsDistinct eq ys
     → AllByRecursion (λ x. AllByRecursion (λ y. eq x y ≡ false) ys) xs → IsDistinct eq (xs ++ ys)

@@ -1,0 +1,2 @@
+-- That parts of numbered nodes are numbered: Parts.
+pub mod Parts
