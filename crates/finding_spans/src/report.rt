@@ -2,7 +2,8 @@
 
 use iec_tables::kind::Kind;
 use sqlite_items::Items;
-use st_tree::{FaultCode, Site};
+use iec_tables::fault::FaultCode;
+use st_tree::Site;
 use station_ports::texts::Name;
 
 /// The number of alarms of a report.

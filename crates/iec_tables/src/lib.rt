@@ -2,6 +2,7 @@
 #![tactic(auto)]
 
 pub mod elem;
+pub mod fault;
 pub mod kind;
 pub mod letters;
 pub mod words;

@@ -2,8 +2,8 @@
 use Rattle.std.specs.Prelude.{ℕ, ℤ, List, ◌++◌, flat_map, codes, decimal}
 use Rattle.std.specs.Fmt.{signed_decimal}
 use Rattle.iec_tables.specs.Kinds as kinds
-use Rattle.st_tree.specs.Faults as faults
-use Rattle.st_tree.specs.declared.fault.FaultCode.{FaultCode}
+use Rattle.iec_tables.specs.Faults as faults
+use Rattle.iec_tables.specs.declared.fault.FaultCode.{FaultCode}
 use Rattle.finding_spans.specs.declared.report.Verdict.{Verdict}
 use Rattle.finding_spans.specs.declared.report.Verdict.TheVariants.{Free, Alarms, Refused}
 use Rattle.finding_spans.specs.declared.report.Refusal.{Refusal}

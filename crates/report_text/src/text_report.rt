@@ -5,7 +5,7 @@ ghost use Rattle.report_text.specs.Text as lines;
 
 use crate::put::{put, put_bounds, put_count, put_place};
 use finding_spans::{Alarm, Entry, RangeLine, Refusal, Report, Verdict};
-use st_tree::FaultCode;
+use iec_tables::fault::FaultCode;
 use station_ports::outside::NoMemory;
 use std::alloc::{AllocError, Global};
 

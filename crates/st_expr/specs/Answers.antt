@@ -5,7 +5,7 @@ use Rattle.token_grammar.specs.Texts.{lexemes}
 use Rattle.token_grammar.specs.Grammar.{Spells}
 use Rattle.token_grammar.specs.declared.fault.ParseError.{ParseError}
 use Rattle.token_grammar.specs.declared.fault.ParseError.TheVariants as error
-use Rattle.st_tree.specs.declared.fault.FaultCode.TheVariants.{NotBuilt}
+use Rattle.iec_tables.specs.declared.fault.FaultCode.TheVariants.{NotBuilt}
 use Rattle.st_tree.specs.declared.tree.Unit.{Unit as SourceUnit}
 use Rattle.st_tree.specs.declared.tree.SourceTree.{SourceTree}
 use Rattle.st_tree.specs.Bare.{bare_unit}

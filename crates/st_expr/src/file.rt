@@ -8,7 +8,8 @@ ghost use Rattle.st_expr.specs.Answers.{Answers, Parses, fault_of};
 
 use crate::parser::Parser;
 use sqlite_items::Items;
-use st_tree::{FaultCode, SourceTree, Unit};
+use iec_tables::fault::FaultCode;
+use st_tree::{SourceTree, Unit};
 use station_ports::steps::Steps;
 use std::alloc::{AllocError, Global};
 use std::sync::ledger::Ledger;

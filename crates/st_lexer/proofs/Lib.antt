@@ -1,5 +1,4 @@
-pub mod Words
-pub mod WordKinds
-pub mod Cuts
-pub mod OneCut
-pub mod Placed
+mod Tests
+mod Spaced
+mod Closing
+mod Keywords

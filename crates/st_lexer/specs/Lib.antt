@@ -1,4 +1,7 @@
 pub mod Bytes
+pub mod Times
+pub mod Texts
+pub mod Faulty
 pub mod Cut
-pub mod Parts
-pub mod Placed
+pub mod Front
+pub mod Answers

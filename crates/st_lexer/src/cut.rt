@@ -1,54 +1,76 @@
-// The tokens of a whole text.
+// The tokens of a whole text, or its first fault.
 
-ghost use Rattle.std.specs.Prelude.{◌≡◌, ℕ, List, IfOk};
+ghost use Rattle.std.specs.Prelude.{◌≡◌, ◌≤◌, MatchResult, IfOk, IfErr, length};
 ghost use Rattle.std.specs.List.{Contains};
-ghost use Rattle.st_lexer.specs.Cut.{IsCut};
-ghost use Rattle.st_lexer.specs.Placed.{IsIn, IsShort};
+ghost use Rattle.st_lexer.specs.Cut as cuts;
+ghost use Rattle.st_lexer.specs.Answers.{Answers};
 
-use crate::front::{Class, class_of, cut_front};
+use crate::bytes::is_white;
+use crate::front::{Found, front};
+use iec_tables::fault::FaultCode;
 use std::alloc::{AllocError, Global};
+use std::str;
 use token_grammar::{Token, Tokens};
 
-/// Why a text isn't cut.
+/// Why a text isn't cut: a fault and its place in bytes, or no memory.
 #[derive(Clone, Copy, Debug, PartialEq, Eq)]
 pub enum LexFault {
+    At { code: FaultCode, at: usize },
     NoMemory,
 }
 
 impl From<AllocError> for LexFault {
+    ghost use Rattle.st_lexer.specs.declared.cut.LexFault.TheVariants as faults;
+
+    ghost from_gives = { λ _ e. e ≡ faults.NoMemory };
+
     fn from(_: AllocError) -> Self {
         LexFault::NoMemory
     }
 }
 
-/// The tokens of the text, in its order. White space (space, tab, carriage return, line feed) stands between them.
+/// The tokens of the text, in its order, or its first fault: that it isn't UTF-8, at the end of its longest front that is; else the one that is met
+/// first when the text is cut from its start. White space (space, tab, carriage return, line feed, and a byte order mark at the start) stands between tokens;
+/// comments and pragmas are tokens.
 pub fn tokens<'t>(alloc: Global, text: &'t [u8]) -> Result<Tokens<'t>, LexFault>
-    ensures text { IfOk result (λ tokens. tokens.text.now ≡ text.now) }
-    ensures cut { IfOk result (λ tokens. IsCut text.now tokens.list.items) }
-    ensures within { IfOk result (λ tokens. (t : Token) → Contains tokens.list.items t → IsIn text.now t) }
-    ensures short { IfOk result (λ tokens. (t : Token) → Contains tokens.list.items t → IsShort text.now t) }
+    ensures answers { Answers text.now result }
 {
+    if let Err(error) = str::from_utf8(text) {
+        return Err(LexFault::At {
+            code: FaultCode::NotUtf8,
+            at: error.valid_up_to(),
+        });
+    }
     let mut list = Vec::new(alloc);
-    let mut at = 0;
+    let mut at = mark_length(text);
     'cut: while at < text.len() {
-        if let Class::White = class_of(text[at]) {
+        if is_white(text[at]) {
             at += 1;
         } else {
-            let front = cut_front(&text[at..]);
-            let end = at + front.length;
-            list.push(Token {
-                kind: front.kind,
-                start: at,
-                end,
-            })
-            .map_err(AllocError::from)?;
-            at = end;
+            match front(&text[at..]) {
+                Found::Fault(code) => return Err(LexFault::At { code, at }),
+                Found::Token(kind, length) => {
+                    let token = Token {
+                        kind,
+                        start: at,
+                        end: at + length,
+                    };
+                    list.push(token).map_err(AllocError::from)?;
+                    at += length;
+                }
+            }
         }
     }
     Ok(Tokens { text, list })
 }
 
-/// A text has one cut at most.
-pub fn one_cut()
-    ensures { (text : List ℕ) (xs ys : List Token) → IsCut text xs → IsCut text ys → xs ≡ ys }
-{}
+/// The length of a byte order mark at the start of a text, or 0.
+fn mark_length(text: &[u8]) -> usize
+    ensures value { result ≡ cuts.mark_length text.now }
+    ensures within { result ≤ length text.now }
+{
+    match text {
+        [239, 187, 191, ..] => 3,
+        _ => 0,
+    }
+}

@@ -1,221 +1,158 @@
-// The token at the front of a text.
+// What stands at the front of a text: a token, or a fault.
 
-ghost use Rattle.std.specs.Prelude.{◌≡◌, ◌≤◌, ◌<◌, true, false, length, map, take, drop, bytes_eq, List, ℕ};
-ghost use Rattle.std.specs.List.{prefix_len};
-ghost use Rattle.iec_tables.specs.Letters.{raised};
-ghost use Rattle.st_lexer.specs.Bytes.{class, in_word, is_white, is_letter, is_digit};
-ghost use Rattle.st_lexer.specs.Cut as spec;
-ghost use Rattle.st_lexer.specs.Cut.{begins, is_well_formed, IsWord, IsText};
-ghost use Rattle.st_lexer.specs.Parts as part;
+ghost use Rattle.std.specs.Prelude.{◌≡◌, ◌<◌, ◌+◌, ◌^◌, length, IfSome};
+ghost use Rattle.st_lexer.specs.Front as fronts;
 
-use iec_tables::letters::raise;
-use iec_tables::words::keywords;
+use crate::addresses::address_at;
+use crate::bytes::{Lead, begins_with, lead_of, line_length, word_length};
+use crate::comments::{Style, comment_length, pragma_length};
+use crate::marks::{long_mark, short_mark};
+use crate::numbers::{number_at, typed_at};
+use crate::times::time_at;
+use crate::words::{is_spaced, is_time_word, is_type_word, word_kind};
+use iec_tables::fault::FaultCode;
 use token_grammar::TokenKind;
 
-/// The greatest number of the first form.
-const MAX_NUMBER: u32 = 32767;
-
-/// What a byte can begin.
+/// What stands at the front: a token of a kind and its length in bytes, or a fault.
 #[derive(Clone, Copy, Debug, PartialEq, Eq)]
-pub enum Class {
-    White,
-    Letter,
-    Digit,
-    Other,
+pub(crate) enum Found {
+    Token(TokenKind, usize),
+    Fault(FaultCode),
 }
 
-/// The class of a byte. An underscore counts as a letter.
-pub fn class_of(byte: u8) -> Class
-    ensures { result ≡ class byte }
+/// What stands at the front of these bytes, of which there is one at least.
+#[tactic(auto, unfolding(crate::specs::Front::front))]
+pub(crate) fn front(bytes: &[u8]) -> Found
+    ensures { result ≡ fronts.front bytes.now }
 {
-    match byte {
-        b' ' | b'\t' | b'\r' | b'\n' => Class::White,
-        b'a'..=b'z' | b'A'..=b'Z' | b'_' => Class::Letter,
-        b'0'..=b'9' => Class::Digit,
-        _ => Class::Other,
-    }
-}
-
-fn is_word_byte(byte: u8) -> bool
-    ensures { result ≡ in_word byte }
-{
-    matches!(class_of(byte), Class::Letter | Class::Digit)
-}
-
-/// A token at the front of a text: its kind and its length in bytes.
-#[derive(Clone, Copy, Debug, PartialEq, Eq)]
-pub struct Front {
-    pub kind: TokenKind,
-    pub length: usize,
-}
-
-/// The token at the front of bytes that begin with none of the white space.
-pub fn cut_front(bytes: &[u8]) -> Front
-    requires some { 0 < length bytes.now }
-    requires dark { begins is_white bytes.now ≡ false }
-    ensures some { 0 < result.length }
-    ensures within { result.length ≤ length bytes.now }
-    ensures text { IsText result.kind (take result.length bytes.now) (drop result.length bytes.now) }
-{
-    match class_of(bytes[0]) {
-        Class::Letter => {
-            let length = word_length(bytes);
-            Front {
-                kind: word_kind(&bytes[..length]),
-                length,
+    match bytes.split_first() {
+        None => Found::Fault(FaultCode::BadByte),
+        Some((byte, rest)) => match lead_of(*byte) {
+            Lead::Letter => {
+                let length = word_length(bytes);
+                word_at(length, &bytes[..length], &bytes[length..])
             }
-        }
-        Class::Digit => {
-            let length = word_length(bytes);
-            Front {
-                kind: number_kind(&bytes[..length], &bytes[length..]),
-                length,
-            }
-        }
-        _ => mark(bytes),
-    }
-}
-
-/// How many bytes of a word stand at the front.
-fn word_length(bytes: &[u8]) -> usize
-    ensures value { result ≡ prefix_len in_word bytes.now }
-    ensures within { result ≤ length bytes.now }
-{
-    let mut end = 0;
-    let mut rest = bytes;
-    'word: while let Some((byte, others)) = rest.split_first() {
-        if !is_word_byte(*byte) {
-            return end;
-        }
-        end += 1;
-        rest = others;
-    }
-    end
-}
-
-/// The mark at the front, or a foreign byte.
-fn mark(bytes: &[u8]) -> Front
-    requires some { 0 < length bytes.now }
-    requires dark { begins is_white bytes.now ≡ false }
-    requires apart { begins in_word bytes.now ≡ false }
-    ensures some { 0 < result.length }
-    ensures within { result.length ≤ length bytes.now }
-    ensures text { IsText result.kind (take result.length bytes.now) (drop result.length bytes.now) }
-{
-    let (kind, length) = match bytes {
-        [b':', b'=', ..] => (TokenKind::Becomes, 2),
-        [b':', ..] => (TokenKind::Colon, 1),
-        [b',', ..] => (TokenKind::Comma, 1),
-        [b';', ..] => (TokenKind::Semicolon, 1),
-        [b'+', ..] => (TokenKind::Plus, 1),
-        [b'-', ..] => (TokenKind::Minus, 1),
-        _ => (TokenKind::Foreign, 1),
-    };
-    Front { kind, length }
-}
-
-/// The kind of a word that begins with a letter: a reserved word, a name, or foreign where it is malformed.
-fn word_kind(word: &[u8]) -> TokenKind
-    requires { begins is_letter word.now ≡ true }
-    ensures { (rest : List ℕ) → IsWord word.now rest → IsText result word.now rest }
-{
-    if is_same(word, b"PROGRAM") {
-        TokenKind::Program
-    } else if is_same(word, b"END_PROGRAM") {
-        TokenKind::EndProgram
-    } else if is_same(word, b"VAR") {
-        TokenKind::Var
-    } else if is_same(word, b"END_VAR") {
-        TokenKind::EndVar
-    } else if is_same(word, b"INT") {
-        TokenKind::Int
-    } else if is_name(word) && !is_taken(word) {
-        TokenKind::Name
-    } else {
-        TokenKind::Foreign
-    }
-}
-
-/// Whether the word, its letters raised, is this text.
-fn is_same(word: &[u8], text: &[u8]) -> bool
-    ensures { result ≡ bytes_eq (map raised word.now) text.now }
-{
-    match word {
-        [] => text.is_empty(),
-        [byte, others @ ..] => match text {
-            [] => false,
-            [letter, letters @ ..] => raise(*byte) == *letter && is_same(others, letters),
+            Lead::Digit => token_or(FaultCode::BadNumber, TokenKind::Number, number_at(bytes)),
+            Lead::Percent => token_behind(
+                FaultCode::BadByte,
+                TokenKind::Address,
+                1,
+                address_at(rest),
+            ),
+            Lead::Brace => token_behind(
+                FaultCode::OpenComment,
+                TokenKind::Pragma,
+                1,
+                pragma_length(rest),
+            ),
+            Lead::Parenthesis => at_parenthesis(rest),
+            Lead::Slash => at_slash(rest),
+            Lead::Other => mark_at(*byte, rest),
         },
     }
 }
 
-/// Whether the word, its letters raised, is reserved.
-fn is_taken(word: &[u8]) -> bool
-    ensures { result ≡ part.is_taken word.now }
+/// A token of that length, or a fault where there is none.
+fn token_or(code: FaultCode, kind: TokenKind, size: Option<usize>) -> Found
+    ensures { result ≡ fronts.token_or code kind size }
 {
-    keywords().find(word).is_some()
-}
-
-/// Whether no two underscores stand in a row in the word and none at its end.
-fn is_name(word: &[u8]) -> bool
-    ensures { result ≡ is_well_formed word.now }
-{
-    let mut after = false;
-    let mut rest = word;
-    'byte: while let Some((byte, others)) = rest.split_first() {
-        let underscore = *byte == b'_';
-        if after && underscore {
-            return false;
-        }
-        after = underscore;
-        rest = others;
+    match size {
+        None => Found::Fault(code),
+        Some(size) => Found::Token(kind, size),
     }
-    !after
 }
 
-/// The kind of a word that begins with a digit, before these bytes.
-fn number_kind(word: &[u8], after: &[u8]) -> TokenKind
-    requires { begins is_digit word.now ≡ true }
-    ensures { IsWord word.now after.now → IsText result word.now after.now }
+/// A token of so many bytes and of that length behind them, or a fault where there is none.
+fn token_behind(code: FaultCode, kind: TokenKind, before: usize, size: Option<usize>) -> Found
+    requires { IfSome size (λ n. before + n < 2 ^ 64) }
+    ensures { result ≡ fronts.token_or code kind (fronts.longer before size) }
 {
-    if is_short_number(word) && !goes_on(after) {
-        TokenKind::Number
+    match size {
+        None => Found::Fault(code),
+        Some(size) => Found::Token(kind, before + size),
+    }
+}
+
+/// What a word begins, of that length and before that rest.
+#[tactic(auto, unfolding(crate::specs::Front::word_at))]
+fn word_at(size: usize, word: &[u8], rest: &[u8]) -> Found
+    requires { size + length rest.now < 2 ^ 63 }
+    ensures { result ≡ fronts.word_at size word.now rest.now }
+{
+    if begins_with(b'#', rest) {
+        if is_type_word(word) {
+            return token_behind(
+                FaultCode::BadNumber,
+                TokenKind::TypedNumber,
+                size + 1,
+                typed_at(word, &rest[1..]),
+            );
+        }
+        if is_time_word(word) {
+            return token_behind(
+                FaultCode::BadNumber,
+                TokenKind::Duration,
+                size + 1,
+                time_at(&rest[1..]),
+            );
+        }
+    }
+    if is_spaced(word) {
+        Found::Token(word_kind(word), size)
     } else {
-        TokenKind::Foreign
+        Found::Fault(FaultCode::BadName)
     }
 }
 
-/// Whether `#` or `.` stands at the front.
-fn goes_on(after: &[u8]) -> bool
-    ensures { result ≡ begins spec.goes_on after.now }
+/// What stands at a `(` before that rest.
+fn at_parenthesis(rest: &[u8]) -> Found
+    ensures { result ≡ fronts.at_parenthesis rest.now }
 {
-    match after.split_first() {
-        None => false,
-        Some((byte, _)) => *byte == b'#' || *byte == b'.',
+    if begins_with(b'*', rest) {
+        comment_at(Style::Parentheses, &rest[1..])
+    } else {
+        mark_at(b'(', rest)
     }
 }
 
-fn is_decimal(byte: u8) -> bool
-    ensures { result ≡ is_digit byte }
+/// What stands at a `/` before that rest.
+fn at_slash(rest: &[u8]) -> Found
+    ensures { result ≡ fronts.at_slash rest.now }
 {
-    matches!(byte, b'0'..=b'9')
+    if begins_with(b'/', rest) {
+        Found::Token(TokenKind::Comment, 2 + line_length(&rest[1..]))
+    } else if begins_with(b'*', rest) {
+        comment_at(Style::Slashes, &rest[1..])
+    } else {
+        mark_at(b'/', rest)
+    }
 }
 
-/// Whether the word is decimal digits of a value up to the greatest.
-fn is_short_number(word: &[u8]) -> bool
-    ensures { result ≡ part.is_short_number word.now }
+/// A comment whose opening mark stands before these bytes.
+fn comment_at(style: Style, bytes: &[u8]) -> Found
+    ensures { result ≡ fronts.comment_at style bytes.now }
 {
-    let mut value = 0u32;
-    let mut rest = word;
-    'digit: while let Some((byte, others)) = rest.split_first() {
-        if !is_decimal(*byte) {
-            return false;
-        }
-        value = value * 10 + (*byte - b'0') as u32;
-        if value > MAX_NUMBER {
-            return false;
-        }
-        rest = others;
+    token_behind(
+        FaultCode::OpenComment,
+        TokenKind::Comment,
+        2,
+        comment_length(style, bytes),
+    )
+}
+
+/// The longest mark at that byte before that rest.
+fn mark_at(first: u8, rest: &[u8]) -> Found
+    ensures { result ≡ fronts.mark_at first rest.now }
+{
+    let long = match rest.split_first() {
+        None => None,
+        Some((second, _)) => long_mark(first, *second),
+    };
+    match long {
+        Some(kind) => Found::Token(kind, 2),
+        None => match short_mark(first) {
+            Some(kind) => Found::Token(kind, 1),
+            None => Found::Fault(FaultCode::BadByte),
+        },
     }
-    true
 }

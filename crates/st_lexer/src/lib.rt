@@ -1,7 +1,14 @@
-//! Tokens: the one cut of a text.
+//! Tokens: the one cut of a text, or its first fault.
 #![tactic(auto)]
 
+mod addresses;
+mod bytes;
+mod comments;
 mod cut;
 mod front;
+mod marks;
+mod numbers;
+mod times;
+mod words;
 
-pub use cut::{LexFault, one_cut, tokens};
+pub use cut::{LexFault, tokens};

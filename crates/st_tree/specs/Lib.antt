@@ -1,4 +1,3 @@
-pub mod Faults
 pub mod Feeds
 pub mod Code
 pub mod Writes

@@ -2,13 +2,11 @@
 #![tactic(auto)]
 
 mod code;
-mod fault;
 mod hit;
 mod node;
 mod tree;
 
 pub use code::{Cell, CellInfo, Code, Component, Number, Operation, TaskCode};
-pub use fault::FaultCode;
 pub use hit::Hit;
 pub use node::{Node, NodeNo, Site};
 pub use tree::{

@@ -9,7 +9,7 @@ use Rattle.token_grammar.specs.Texts.{Lexeme, lexemes}
 use Rattle.token_grammar.specs.Grammar.{IsLongest}
 use Rattle.token_grammar.proofs.OneFront.{one_rest}
 use Rattle.st_lexer.specs.Cut.{IsCut}
-use Rattle.st_tree.specs.declared.fault.FaultCode.TheVariants.{NotBuilt}
+use Rattle.iec_tables.specs.declared.fault.FaultCode.TheVariants.{NotBuilt}
 use Rattle.st_tree.specs.declared.tree.Unit.{Unit as SourceUnit}
 use Rattle.st_tree.specs.declared.tree.SourceTree.{SourceTree}
 use Rattle.st_tree.specs.declared.code.TaskCode.{TaskCode}

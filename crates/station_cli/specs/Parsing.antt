@@ -5,7 +5,7 @@ use Rattle.token_grammar.specs.declared.token.Token.{Token}
 use Rattle.st_lexer.specs.Cut.{IsCut}
 use Rattle.st_expr.specs.FirstForm.{IsTree, IsRefused}
 use Rattle.st_tree.specs.declared.node.Node.{Node}
-use Rattle.st_tree.specs.declared.fault.FaultCode.TheVariants.{NotBuilt}
+use Rattle.iec_tables.specs.declared.fault.FaultCode.TheVariants.{NotBuilt}
 use Rattle.st_tree.specs.declared.tree.Unit.{Unit as SourceUnit}
 use Rattle.st_tree.specs.declared.tree.SourceTree.{SourceTree}
 use Rattle.st_tree.specs.Feeds.{feeds_from}

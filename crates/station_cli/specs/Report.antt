@@ -6,7 +6,7 @@ use Rattle.iec_tables.specs.Kinds as kinds
 use Rattle.interval_domain.specs.Interval.{Interval, Span, IsWithin}
 use Rattle.interval_domain.specs.Grid.{IsGrid}
 use Rattle.st_tree.specs.declared.node.Site.{Site}
-use Rattle.st_tree.specs.declared.fault.FaultCode.TheVariants.{NotBuilt}
+use Rattle.iec_tables.specs.declared.fault.FaultCode.TheVariants.{NotBuilt}
 use Rattle.st_tree.specs.declared.tree.Stmt.{Stmt}
 use Rattle.st_tree.specs.declared.tree.Stmt.TheVariants.{Assign}
 use Rattle.st_tree.specs.declared.tree.Unit.{Unit as SourceUnit}

@@ -8,7 +8,7 @@ ghost use Rattle.finding_spans.specs.declared.report.Refusal.{Refusal as Reason}
 ghost use Rattle.token_grammar.specs.declared.token.Token.{Token as Lexeme};
 ghost use Rattle.st_lexer.specs.Cut.{IsCut};
 ghost use Rattle.st_expr.specs.FirstForm.{IsRefused};
-ghost use Rattle.st_tree.specs.declared.fault.FaultCode.TheVariants as faults;
+ghost use Rattle.iec_tables.specs.declared.fault.FaultCode.TheVariants as faults;
 ghost use Rattle.station_cli.specs.Reports.{IsCounted};
 ghost use Rattle.station_cli.specs.Report.{IsReport, IsRefusal, IsReportOf, IsUnder, subject};
 ghost use Rattle.station_cli.specs.Parsing.{IsAnalysable, IsParsedText};
@@ -23,7 +23,8 @@ use interval_domain::interval::Interval;
 use sqlite_items::Items;
 use st_expr::{ParseFault, first_form, tree_laws};
 use st_lexer::{LexFault, tokens};
-use st_tree::{CellInfo, Component, FaultCode, Hit, NodeNo, SourceTree, Stmt};
+use iec_tables::fault::FaultCode;
+use st_tree::{CellInfo, Component, Hit, NodeNo, SourceTree, Stmt};
 use station_ports::outside::NoMemory;
 use station_ports::steps::Steps;
 use station_ports::texts::{FileText, Name};

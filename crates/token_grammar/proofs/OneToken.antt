@@ -14,7 +14,7 @@ abbrev pub never : List Lexeme → Bool
 never ts = false
 
 abbrev pub a_token : TokenKind → Lexeme
-a_token k = record { kind = k; start = 0; end = 0; bytes = [] }
+a_token k = record { kind = k; start = 0; end = 0; bytes = []; behind = [] }
 
 pub same_kind_refl : (k : TokenKind) → same_kind k k ≡ true
 same_kind_refl k = eq-eqb (place_of k) (place_of k) refl

@@ -11,9 +11,11 @@ pub record Lexeme : Type 0 where
   pub start : ℕ
   pub end : ℕ
   pub bytes : List ℕ
+  -- the byte behind it, if there is one
+  pub behind : List ℕ
 
 abbrev pub lexeme : List ℕ → Token → Lexeme
-lexeme text t = record { kind = t.kind; start = t.start; end = t.end; bytes = take (t.end - t.start) (drop t.start text) }
+lexeme text t = record { kind = t.kind; start = t.start; end = t.end; bytes = take (t.end - t.start) (drop t.start text); behind = take 1 (drop t.end text) }
 
 abbrev pub lexemes : List ℕ → List Token → List Lexeme
 lexemes text ts = map (lexeme text) ts

@@ -1,23 +1,147 @@
 // Tokens of a text.
 
-/// The kind of a token.
+/// The kind of a token: one for each reserved word and each mark.
 #[derive(Clone, Copy, Debug, PartialEq, Eq)]
 pub enum TokenKind {
-    Program,
-    EndProgram,
-    Var,
-    EndVar,
-    Int,
+    Comment,
+    Pragma,
     Name,
     Number,
+    /// A number behind the name of its type, as `INT#5`.
+    TypedNumber,
+    /// A time, as `T#5s`.
+    Duration,
+    Address,
+    // The reserved words and the names of types, in byte order.
+    Action,
+    And,
+    Array,
+    At,
+    Bool,
+    By,
+    Byte,
+    Case,
+    Configuration,
+    Constant,
+    Continue,
+    Dint,
+    Do,
+    Dword,
+    Else,
+    Elsif,
+    EndAction,
+    EndCase,
+    EndConfiguration,
+    EndFor,
+    EndFunction,
+    EndFunctionBlock,
+    EndIf,
+    EndProgram,
+    EndRepeat,
+    EndResource,
+    EndStep,
+    EndStruct,
+    EndTransition,
+    EndType,
+    EndVar,
+    EndWhile,
+    Exit,
+    False,
+    For,
+    From,
+    Function,
+    FunctionBlock,
+    If,
+    InitialStep,
+    Int,
+    Lint,
+    Lword,
+    Mod,
+    NonRetain,
+    Not,
+    Of,
+    On,
+    Or,
+    Program,
+    Repeat,
+    Resource,
+    Retain,
+    Return,
+    Sint,
+    Step,
+    Struct,
+    Task,
+    Then,
+    Time,
+    To,
+    Transition,
+    True,
+    Type,
+    Udint,
+    Uint,
+    Ulint,
+    Until,
+    Usint,
+    Var,
+    VarExternal,
+    VarGlobal,
+    VarInput,
+    VarInOut,
+    VarOutput,
+    VarTemp,
+    While,
+    With,
+    Word,
+    Xor,
+    // The marks.
+    /// `:=`
     Becomes,
-    Colon,
-    Comma,
-    Semicolon,
+    /// `=>`
+    Arrow,
+    /// `<=`
+    LessEqual,
+    /// `>=`
+    GreaterEqual,
+    /// `<>`
+    NotEqual,
+    /// `=`
+    Equal,
+    /// `<`
+    Less,
+    /// `>`
+    Greater,
+    /// `+`
     Plus,
+    /// `-`
     Minus,
-    /// A word or a byte that none of the other kinds takes.
-    Foreign,
+    /// `*`
+    Star,
+    /// `**`
+    Power,
+    /// `/`
+    Slash,
+    /// `&`
+    Ampersand,
+    /// `(`
+    OpenParenthesis,
+    /// `)`
+    CloseParenthesis,
+    /// `[`
+    OpenBracket,
+    /// `]`
+    CloseBracket,
+    /// `,`
+    Comma,
+    /// `;`
+    Semicolon,
+    /// `:`
+    Colon,
+    /// `.`
+    Dot,
+    /// `..`
+    DotDot,
+    /// `#`
+    Hash,
 }
 
 /// A token: its kind, its first byte and the byte after its last, counted from the start of the text.

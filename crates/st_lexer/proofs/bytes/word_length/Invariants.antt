@@ -1,0 +1,9 @@
+use Rattle.std.proofs.Common.{◌≡◌, ◌+◌, length}
+use Rattle.st_lexer.specs.Front.{word_length}
+use Rattle.st_lexer.proofs.bytes.word_length.Given as goal
+
+abbrev pub invariant-run : goal.invariant-run
+invariant-run l = record { counted : word_length l.bytes ≡ l.count + word_length l.rest; within : l.count + length l.rest ≡ length l.bytes }
+
+abbrev pub decreases-run : goal.decreases-run
+decreases-run l = length l.rest
