@@ -1,5 +1,5 @@
 // Tables of words in byte order, and the table of reserved words.
-ghost use Rattle.std.specs.Prelude.{◌≡◌, IsTrue, MatchOption, map};
+ghost use Rattle.std.specs.Prelude.{◌≡◌, IsTrue, MatchOption, length, map};
 ghost use Rattle.std.specs.Ordering.{nat_cmp};
 ghost use Rattle.std.specs.Cmp.Lexicographic.{slice_cmp};
 ghost use Rattle.iec_tables.specs.Letters.{raised};
@@ -18,12 +18,12 @@ pub struct Word {
 
 /// A table of words whose texts rise strictly in byte order. To contracts it is the list of its rows.
 #[derive(Drop)]
-pub struct Sorted<'a> {
+pub struct Sorted<'a, const N: usize> {
     rows: &'a [Word],
 }
 
-impl<'a> Model for Sorted<'a> {
-    ghost use Rattle.std.specs.Prelude.{List, IsTrue};
+impl<'a, const N: usize> Model for Sorted<'a, N> {
+    ghost use Rattle.std.specs.Prelude.{◌≡◌, List, IsTrue, length};
     ghost use Rattle.iec_tables.specs.declared.words.Word.{Word};
     ghost use Rattle.iec_tables.specs.Words.{are_rising};
 
@@ -31,13 +31,14 @@ impl<'a> Model for Sorted<'a> {
 
     ghost view = { λ s. s.rows.now };
 
-    ghost invariant = { λ s. IsTrue (are_rising s.rows.now) };
+    ghost invariant = { λ s. (length s.rows.now ≡ N) × IsTrue (are_rising s.rows.now) };
 }
 
-impl<'a> Sorted<'a> {
+impl<'a, const N: usize> Sorted<'a, N> {
     /// The table of these rows.
-    pub fn of(rows: &'a [Word]) -> Sorted<'a>
-        requires { IsTrue (are_rising rows.now) }
+    pub fn of(rows: &'a [Word]) -> Sorted<'a, N>
+        requires length { length rows.now ≡ N }
+        requires rising { IsTrue (are_rising rows.now) }
         ensures { result ≡ rows.now }
     {
         Sorted { rows }
@@ -107,7 +108,7 @@ static KEYWORDS: [Word; 80] = words![
 
 /// The reserved words of the language and the names of the elementary types, each numbered by its place in byte order,
 /// 0 to 79.
-pub fn keywords() -> Sorted<'static>
+pub fn keywords() -> Sorted<'static, 80>
     ensures texts { map (λ word. word.text.now) result ≡ keyword_texts }
     ensures numbers { map (λ word. word.number) result ≡ first_numbers 80 }
 {
