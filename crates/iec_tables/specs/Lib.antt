@@ -1,3 +1,4 @@
+pub mod Conversions
 pub mod Kinds
 pub mod Letters
 pub mod Types
