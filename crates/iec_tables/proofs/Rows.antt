@@ -1,20 +1,15 @@
--- Where the search in a table of rising words ends.
+-- Where the search in a table of rows that rise by a key ends.
 use Rattle.std.proofs.Common.{◌≡◌, ℕ, zero, suc, ◌+◌, ◌<◌, ◌≤◌, Bool, true, false, ◌&&◌, List, [], ◌∷◌, length, get_or, IsTrue, ◌⊎◌, inl, inr, arith, ap, ◌∙◌, sym, subst, refl}
-use Rattle.std.specs.List.{HoldsAt}
+use Rattle.std.specs.List.{Contains}
 use Rattle.std.specs.List.Sorted.{IsSortedBy, IsPartitionPoint, IsNonDecreasingBy}
 use Rattle.std.specs.Ordering.{nat_cmp, is_lt, ordering_reverse, ordering_index}
 use Rattle.std.specs.declared.cmp.Ordering.{Ordering}
 use Rattle.std.specs.declared.cmp.Ordering.TheVariants.{Less, Equal, Greater}
-use Rattle.std.specs.Cmp.{tied_itself}
-use Rattle.std.specs.Cmp.Lexicographic.{slice_cmp, nat_list_cmp_total}
-use Rattle.std.specs.FinMap.{slice_cmp-IsAntisymmetric, nat_cmp-IsAntisymmetric}
+use Rattle.std.specs.Cmp.{IsTotalOrder, tied_itself}
+use Rattle.std.specs.Cmp.Lexicographic.{slice_cmp}
 use Rattle.std.proofs.lemmas.List.Sorted.{searchable_from_sorted}
-use Rattle.std.proofs.lemmas.List.Elements.{Contains-get_or}
-use Rattle.iec_tables.specs.declared.words.Word.{Word}
-use Rattle.iec_tables.specs.Words.{are_rising, rise_from, raised_all, HasRow, HasNoRow}
-
-abbrev pub against : List ℕ → Word → Ordering
-against key w = slice_cmp nat_cmp w.text.now key
+use Rattle.iec_tables.specs.Rising.{keys_rise, keys_rise_from}
+use Rattle.iec_tables.specs.Words.{raised_all}
 
 flipped : (r s : Ordering) → s ≡ ordering_reverse r → IsTrue (is_lt r) → is_lt s ≡ false
 flipped Less s e h = ap is_lt e
@@ -25,42 +20,36 @@ both_true : (a b : Bool) → (a && b) ≡ true → (a ≡ true) × (b ≡ true)
 both_true true b h = (refl, h)
 both_true false b h = cc
 
-rising-sorted : (rows : List Word) → IsTrue (are_rising rows) → IsSortedBy (λ a b. is_lt (slice_cmp nat_cmp a.text.now b.text.now)) rows
-rising-sorted [] h k d l m = absurd (omega arith)
-rising-sorted (w ∷ []) h k d l m = absurd (omega arith)
-rising-sorted (w ∷ v ∷ ws) h zero d l m =
-    flipped (slice_cmp nat_cmp w.text.now v.text.now) (slice_cmp nat_cmp v.text.now w.text.now) (nat_list_cmp_total.antisymm v.text.now w.text.now) (both_true (is_lt (slice_cmp nat_cmp w.text.now v.text.now)) (rise_from v.text.now ws) h).0
-rising-sorted (w ∷ v ∷ ws) h (suc k) d l m =
+rising-sorted : {Row Key : Type 0} {order : Key → Key → Ordering} → IsTotalOrder order → (key : Row → Key) (rows : List Row) → IsTrue (keys_rise order key rows)
+    → IsSortedBy (λ a b. is_lt (order (key a) (key b))) rows
+rising-sorted o key [] h k d l m = absurd (omega arith)
+rising-sorted o key (w ∷ []) h k d l m = absurd (omega arith)
+rising-sorted {order = order} o key (w ∷ v ∷ ws) h zero d l m =
+    flipped (order (key w) (key v)) (order (key v) (key w)) (o.antisymm (key v) (key w)) (both_true (is_lt (order (key w) (key v))) (keys_rise_from order key (key v) ws) h).0
+rising-sorted {order = order} o key (w ∷ v ∷ ws) h (suc k) d l m =
     let shifted : suc (k + 1) ≡ suc k + 1 = omega arith in
-    subst (λ (n : ℕ). is_lt (slice_cmp nat_cmp (get_or (w ∷ v ∷ ws) n d).text.now (get_or (v ∷ ws) k d).text.now) ≡ false) shifted
-    (rising-sorted (v ∷ ws) (both_true (is_lt (slice_cmp nat_cmp w.text.now v.text.now)) (rise_from v.text.now ws) h).1 k d (omega arith) (omega arith))
+    subst (λ (n : ℕ). is_lt (order (key (get_or (w ∷ v ∷ ws) n d)) (key (get_or (v ∷ ws) k d))) ≡ false) shifted
+    (rising-sorted o key (v ∷ ws) (both_true (is_lt (order (key w) (key v))) (keys_rise_from order key (key v) ws) h).1 k d (omega arith) (omega arith))
 
-pub searchable : (rows : List Word) (key : List ℕ) → IsTrue (are_rising rows) → IsNonDecreasingBy (λ w. ordering_index (against key w)) rows
-searchable rows key h = searchable_from_sorted nat_list_cmp_total (λ w. w.text.now) rows key (rising-sorted rows h)
+pub searchable : {Row Key : Type 0} {order : Key → Key → Ordering} → IsTotalOrder order → (key : Row → Key) (rows : List Row) (sought : Key) → IsTrue (keys_rise order key rows)
+    → IsNonDecreasingBy (λ row. ordering_index (order (key row) sought)) rows
+searchable o key rows sought h = searchable_from_sorted o key rows sought (rising-sorted o key rows h)
 
-pub row-found : (rows : List Word) (key : List ℕ) (i : ℕ) (d : Word) → i < length rows → HoldsAt (λ w. against key w ≡ Equal) rows i
-    → HasRow rows key (get_or rows i d).number
-row-found rows key i d h at = record {
-  row = get_or rows i d;
-  there = Contains-get_or rows i d h;
-  text_is = slice_cmp-IsAntisymmetric nat_cmp-IsAntisymmetric _ _ (at d);
-  number_is = λ _. (get_or rows i d).number;
-}
-
-unequal : (rows : List Word) (key : List ℕ) (row : Word) (k : ℕ) (r : Ordering) → get_or rows k row ≡ row → row.text.now ≡ key
-    → against key (get_or rows k row) ≡ r → Equal ≡ r
-unequal rows key row k r e same is =
-    sym (tied_itself nat_list_cmp_total key) ∙ ap (λ t. slice_cmp nat_cmp t key) (sym same) ∙ ap (against key) (sym e) ∙ is
+unequal : {Row Key : Type 0} {order : Key → Key → Ordering} → IsTotalOrder order → (key : Row → Key) (rows : List Row) (sought : Key) (row : Row) (k : ℕ) (r : Ordering)
+    → get_or rows k row ≡ row → key row ≡ sought → order (key (get_or rows k row)) sought ≡ r → Equal ≡ r
+unequal {order = order} o key rows sought row k r e same is =
+    sym (tied_itself o sought) ∙ ap (λ t. order t sought) (sym same) ∙ ap (λ x. order (key x) sought) (sym e) ∙ is
 
 below_or_not : (k i : ℕ) → (k < i) ⊎ (i ≤ k)
 below_or_not k i = grind arith
 
-pub no-row : (rows : List Word) (key : List ℕ) (i : ℕ)
-    → IsPartitionPoint (λ w. against key w ≡ Less) (λ w. against key w ≡ Greater) rows i → HasNoRow rows key
-no-row rows key i p row (k, l, e) same =
+pub no-row : {Row Key : Type 0} {order : Key → Key → Ordering} → IsTotalOrder order → (key : Row → Key) (rows : List Row) (sought : Key) (i : ℕ)
+    → IsPartitionPoint (λ row. order (key row) sought ≡ Less) (λ row. order (key row) sought ≡ Greater) rows i
+    → (row : Row) → Contains rows row → ¬ (key row ≡ sought)
+no-row o key rows sought i p row (k, l, e) same =
     elim (below_or_not k i) [
-      | inl h ↦ let wrong : Equal ≡ Less = unequal rows key row k Less e same (p.0 k row (omega arith) h) in cc
-      | inr h ↦ let wrong : Equal ≡ Greater = unequal rows key row k Greater e same (p.1 k row h l) in cc
+      | inl h ↦ let wrong : Equal ≡ Less = unequal o key rows sought row k Less e same (p.0 k row (omega arith) h) in cc
+      | inr h ↦ let wrong : Equal ≡ Greater = unequal o key rows sought row k Greater e same (p.1 k row h l) in cc
     ]
 
 pub longer : (text key : List ℕ) → 1 ≤ length text → length key ≡ 0 → Greater ≡ slice_cmp nat_cmp text (raised_all key)

@@ -1,24 +1,16 @@
 -- Tables of words. Names and words are compared with small letters raised. Source: IEC 61131-3, third edition, identifiers
 -- and keywords. The code searches by halves and raises letters as it compares; here a row is named by what it holds.
-use Rattle.std.specs.Prelude.{◌≡◌, ℕ, Bool, true, ◌&&◌, List, [], ◌∷◌, map, codes}
+use Rattle.std.specs.Prelude.{◌≡◌, ℕ, Bool, List, [], ◌∷◌, map, codes}
 use Rattle.std.specs.List.{Contains, range_with_len}
-use Rattle.std.specs.Ordering.{nat_cmp, is_lt}
+use Rattle.std.specs.Ordering.{nat_cmp}
 use Rattle.std.specs.Cmp.Lexicographic.{slice_cmp}
 use Rattle.iec_tables.specs.declared.words.Word.{Word}
 use Rattle.iec_tables.specs.Letters.{raised}
+use Rattle.iec_tables.specs.Rising.{keys_rise}
 
--- byte order
-abbrev pub is_below : List ℕ → List ℕ → Bool
-is_below x y = is_lt (slice_cmp nat_cmp x y)
-
--- the texts after that one rise strictly in byte order
-abbrev pub rise_from : List ℕ → List Word → Bool
-rise_from text [] = true
-rise_from text (w ∷ ws) = is_below text w.text.now && rise_from w.text.now ws
-
-abbrev pub are_rising : List Word → Bool
-are_rising [] = true
-are_rising (w ∷ ws) = rise_from w.text.now ws
+-- the texts rise strictly in byte order
+abbrev pub texts_rise : List Word → Bool
+texts_rise rows = keys_rise (slice_cmp nat_cmp) (λ row. row.text.now) rows
 
 -- some row has that text and that number
 pub record HasRow (rows : List Word) (text : List ℕ) (number : ℕ) : Type 0 where

@@ -1,9 +1,9 @@
 // Tables of words in byte order, and the table of reserved words.
-ghost use Rattle.std.specs.Prelude.{◌≡◌, IsTrue, MatchOption, map};
+ghost use Rattle.std.specs.Prelude.{◌≡◌, IsTrue, MatchOption, length, map};
 ghost use Rattle.std.specs.Ordering.{nat_cmp};
 ghost use Rattle.std.specs.Cmp.Lexicographic.{slice_cmp};
 ghost use Rattle.iec_tables.specs.Letters.{raised};
-ghost use Rattle.iec_tables.specs.Words.{are_rising, HasRow, HasNoRow, raised_all, keyword_texts, first_numbers};
+ghost use Rattle.iec_tables.specs.Words.{texts_rise, HasRow, HasNoRow, raised_all, keyword_texts, first_numbers};
 
 use crate::letters::raise;
 use std::cmp::Ordering;
@@ -16,28 +16,29 @@ pub struct Word {
     pub number: u16,
 }
 
-/// A table of words whose texts rise strictly in byte order. To contracts it is the list of its rows.
+/// A table of `N` words whose texts rise strictly in byte order. To contracts it is the list of its rows.
 #[derive(Drop)]
-pub struct Sorted<'a> {
+pub struct Sorted<'a, const N: usize> {
     rows: &'a [Word],
 }
 
-impl<'a> Model for Sorted<'a> {
-    ghost use Rattle.std.specs.Prelude.{List, IsTrue};
+impl<'a, const N: usize> Model for Sorted<'a, N> {
+    ghost use Rattle.std.specs.Prelude.{◌≡◌, List, IsTrue, length};
     ghost use Rattle.iec_tables.specs.declared.words.Word.{Word};
-    ghost use Rattle.iec_tables.specs.Words.{are_rising};
+    ghost use Rattle.iec_tables.specs.Words.{texts_rise};
 
     ghost Value = { List Word };
 
     ghost view = { λ s. s.rows.now };
 
-    ghost invariant = { λ s. IsTrue (are_rising s.rows.now) };
+    ghost invariant = { λ s. (length s.rows.now ≡ N) × IsTrue (texts_rise s.rows.now) };
 }
 
-impl<'a> Sorted<'a> {
-    /// The table of these rows.
-    pub fn of(rows: &'a [Word]) -> Sorted<'a>
-        requires { IsTrue (are_rising rows.now) }
+impl<'a, const N: usize> Sorted<'a, N> {
+    /// The table of these `N` rows, whose texts rise strictly.
+    pub fn of(rows: &'a [Word]) -> Sorted<'a, N>
+        requires length { length rows.now ≡ N }
+        requires rising { IsTrue (texts_rise rows.now) }
         ensures { result ≡ rows.now }
     {
         Sorted { rows }
@@ -52,7 +53,7 @@ impl<'a> Sorted<'a> {
 }
 
 fn find_row(rows: &[Word], key: &[u8]) -> Option<u16>
-    requires { IsTrue (are_rising rows.now) }
+    requires { IsTrue (texts_rise rows.now) }
     ensures { MatchOption result (HasNoRow rows.now (raised_all key.now)) (HasRow rows.now (raised_all key.now)) }
 {
     match rows.binary_search_by(|row| compare_raised(row.text, key)) {
@@ -107,7 +108,7 @@ static KEYWORDS: [Word; 80] = words![
 
 /// The reserved words of the language and the names of the elementary types, each numbered by its place in byte order,
 /// 0 to 79.
-pub fn keywords() -> Sorted<'static>
+pub fn keywords() -> Sorted<'static, 80>
     ensures texts { map (λ word. word.text.now) result ≡ keyword_texts }
     ensures numbers { map (λ word. word.number) result ≡ first_numbers 80 }
 {
