@@ -83,7 +83,7 @@ place_is rows row i e at =
     let below = place_below rows row i e at in
     let within : i < length (range_with_len 0 80) = omega (arith, below, length-range_with_len 0 80) in
     let told : Some row.number ≡ Some (get_or (range_with_len 0 80) i 0) =
-        sym (number_at rows row i at) ∙ ap (λ (xs : List ℕ). slice_get xs i) e ∙ get_at (range_with_len 0 80) i 0 within in
+    sym (number_at rows row i at) ∙ ap (λ (xs : List ℕ). slice_get xs i) e ∙ get_at (range_with_len 0 80) i 0 within in
     let is : row.number ≡ get_or (range_with_len 0 80) i 0 = cc in
     omega (arith, is, get_or-range_with_len 0 80 i 0 below)
 

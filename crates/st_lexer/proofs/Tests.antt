@@ -1,6 +1,7 @@
 -- Tests and what they tell.
-use Rattle.std.proofs.Common.{◌≡◌, ℕ, Bool, true, false, ◌&&◌, ◌||◌, List, refl, sym, ◌∙◌}
-use Rattle.std.specs.Prelude.{bytes_eq}
+use Rattle.std.proofs.Common.{◌≡◌, ℕ, Bool, true, false, not, ◌&&◌, ◌||◌, List, refl, sym, ◌∙◌}
+use Rattle.std.specs.Prelude.{bytes_eq, nat_eq}
+use Rattle.std.proofs.lemmas.Bool.{eq-eqb}
 use Rattle.std.proofs.lemmas.Slice.Eq.{bytes_eq-Decides}
 
 pub same : (x y : List ℕ) → bytes_eq x y ≡ true → x ≡ y
@@ -26,3 +27,7 @@ and_true a b ha hb = cc
 pub or_right : (v : Bool) → (v || true) ≡ true
 or_right true = refl
 or_right false = refl
+
+-- two numbers that are told apart
+pub differ : (a b : ℕ) → nat_eq a b ≡ false → a ≡ b → ⊥
+differ a b f e = clash (nat_eq a b) (eq-eqb a b e) f

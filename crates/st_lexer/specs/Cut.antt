@@ -1,6 +1,6 @@
 -- The one cut of a text into tokens, or its first fault. Source: the lexical elements of the standard, with longest match; this profile for the order of faults.
 -- The code reads the bytes from left to right.
-use Rattle.std.specs.Prelude.{◌≡◌, ◌⊎◌, ℕ, ◌+◌, ◌-◌, ◌≤◌, Bool, true, List, [], ◌∷◌, ◌++◌, length, take, drop, bytes_eq, if◌then◌else◌, Option}
+use Rattle.std.specs.Prelude.{◌≡◌, ◌⊎◌, ℕ, ◌+◌, ◌≤◌, true, List, [], ◌∷◌, ◌++◌, length, take, drop, bytes_eq, if◌then◌else◌}
 use Rattle.std.specs.List.{list_all}
 use Rattle.std.specs.Str.{IsUtf8, IsValidUpTo}
 use Rattle.iec_tables.specs.declared.fault.FaultCode.{FaultCode}
@@ -9,7 +9,7 @@ use Rattle.token_grammar.specs.declared.token.TokenKind.{TokenKind}
 use Rattle.token_grammar.specs.declared.token.Token.{Token}
 use Rattle.st_lexer.specs.Bytes.{is_white}
 use Rattle.st_lexer.specs.Texts.{IsText}
-use Rattle.st_lexer.specs.Faulty.{IsOpen, IsBadName, IsBadNumber, IsFaulty}
+use Rattle.st_lexer.specs.Faulty.{HasNoFault, IsFaulty}
 
 -- No token of any kind that begins here has a longer text.
 abbrev pub IsLongest : ℕ → List ℕ → Type 0
@@ -19,9 +19,7 @@ IsLongest n bytes = (kind : TokenKind) (text rest : List ℕ) → bytes ≡ text
 pub record IsToken (kind : TokenKind) (text rest : List ℕ) : Type 0 where
   pub text_is : IsText kind text
   pub longest : IsLongest (length text) (text ++ rest)
-  pub closed : IsOpen (text ++ rest) → ⊥
-  pub named : IsBadName (text ++ rest) → ⊥
-  pub numbered : IsBadNumber (text ++ rest) → ⊥
+  pub no_fault : HasNoFault (text ++ rest)
 
 -- From the place on the bytes are white space, up to a further place, from which on the rest is left.
 pub record IsBlank (at : ℕ) (bytes : List ℕ) (place : ℕ) (rest : List ℕ) : Type 0 where

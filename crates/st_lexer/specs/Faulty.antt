@@ -62,12 +62,16 @@ pub record IsBadNumber (bytes : List ℕ) : Type 0 where
 
 -- ---- bytes that begin nothing
 
+-- None of the faults above is met.
+pub record HasNoFault (bytes : List ℕ) : Type 0 where
+  pub no_open_comment : IsOpen bytes → ⊥
+  pub no_bad_name : IsBadName bytes → ⊥
+  pub no_bad_number : IsBadNumber bytes → ⊥
+
 -- A byte that is no white space, at which none of the faults above is met and no token begins.
 pub record IsBadByte (bytes : List ℕ) : Type 0 where
-  pub dark : begins (λ byte. not (is_white byte)) bytes ≡ true
-  pub closed : IsOpen bytes → ⊥
-  pub named : IsBadName bytes → ⊥
-  pub numbered : IsBadNumber bytes → ⊥
+  pub not_white : begins (λ byte. not (is_white byte)) bytes ≡ true
+  pub no_fault : HasNoFault bytes
   pub none : (kind : TokenKind) (text rest : List ℕ) → bytes ≡ text ++ rest → IsText kind text → ⊥
 
 -- This fault is met at the front. (That a text isn't UTF-8 is none of a place.)

@@ -5,3 +5,4 @@ pub mod Faulty
 pub mod Cut
 pub mod Front
 pub mod Answers
+pub mod Laws

@@ -1,8 +1,8 @@
 // The tokens of a whole text, or its first fault.
 
-ghost use Rattle.std.specs.Prelude.{◌≡◌, ◌≤◌, MatchResult, IfOk, IfErr, length};
-ghost use Rattle.std.specs.List.{Contains};
+ghost use Rattle.std.specs.Prelude.{◌≡◌, ◌≤◌, length};
 ghost use Rattle.st_lexer.specs.Cut as cuts;
+ghost use Rattle.st_lexer.specs.Laws as laws;
 ghost use Rattle.st_lexer.specs.Answers.{Answers};
 
 use crate::bytes::is_white;
@@ -74,3 +74,11 @@ fn mark_length(text: &[u8]) -> usize
         _ => 0,
     }
 }
+
+/// Each text has exactly one cut or exactly one fault.
+pub fn cut_laws()
+    ensures some { laws.SomeCut }
+    ensures one_cut { laws.OneCut }
+    ensures one_fault { laws.OneFault }
+    ensures not_both { laws.NotBoth }
+{}

@@ -11,4 +11,4 @@ mod numbers;
 mod times;
 mod words;
 
-pub use cut::{LexFault, tokens};
+pub use cut::{LexFault, cut_laws, tokens};

@@ -49,9 +49,9 @@ fn parts_at(above: u128, left: u128, bytes: &[u8]) -> Option<usize>
     if part.last {
         return None;
     }
-    let link = link_length(rest);
-    let more = parts_at(part.size, left - part.value, &rest[link..])?;
-    Some(part.length + link + more)
+    let next = part.length + link_length(rest);
+    let more = parts_at(part.size, left - part.value, &bytes[next..])?;
+    Some(next + more)
 }
 
 /// The length of an underscore at the front, or of nothing.

@@ -112,7 +112,17 @@ pub(crate) fn word_kind(word: &[u8]) -> TokenKind
 fn kind_at(number: u16) -> Option<TokenKind>
     ensures { result ≡ slice_get keyword_kinds number }
 {
-    KEYWORD_KINDS.get(number as usize).copied()
+    at(&KEYWORD_KINDS, number as usize)
+}
+
+fn at(kinds: &[TokenKind], place: usize) -> Option<TokenKind>
+    ensures { result ≡ slice_get kinds.now place }
+{
+    if place < kinds.len() {
+        Some(kinds[place])
+    } else {
+        None
+    }
 }
 
 /// Whether no two underscores stand in a row in the word and none at its end.
