@@ -6,8 +6,8 @@ use Rattle.token_grammar.specs.declared.token.TokenKind.TheVariants.{Program, En
 use Rattle.token_grammar.specs.declared.fault.ParseError.TheVariants.{Grammar}
 use Rattle.token_grammar.specs.Texts.{Lexeme}
 use Rattle.token_grammar.specs.Kinds.{is_kind}
-use Rattle.token_grammar.specs.Input.{Input, Outcome, Parser, and_then, pure, take, sees_in, loop, repeated}
-use Rattle.token_grammar.specs.Grammar.{Word, Rule, lexemes_of, ◌>>=◌, give, token, many, times}
+use Rattle.token_grammar.specs.Input.{Input, Outcome, Parser, and_then, pure, take, take_that, sees_in, loop, repeated}
+use Rattle.token_grammar.specs.Grammar.{Word, Rule, lexemes_of, ◌>>=◌, give, token, token_that, many, times}
 use Rattle.token_grammar.proofs.Laws.{input, Told, Same, gate, Exact, lexemes_of-two}
 use Rattle.token_grammar.proofs.OneToken.{never, a_token, same_kind_refl, exact_that, exact_token}
 use Rattle.token_grammar.proofs.Bind.{bind}
@@ -22,7 +22,7 @@ use Rattle.st_tree.specs.declared.tree.Stmt.{Stmt}
 use Rattle.st_tree.specs.declared.tree.Decl.{Decl}
 use Rattle.st_tree.specs.Names.{Names, has, names_of, declared, declared_in}
 use Rattle.st_expr.specs.FirstForm as g
-use Rattle.st_expr.specs.FirstForm.{make_identifier, make_path, make_spec, make_decl, make_section, make_number, make_stmt, make_unit, literal, sum_of, is_new, is_known}
+use Rattle.st_expr.specs.FirstForm.{make_identifier, make_path, make_spec, make_decl, make_section, make_number, make_stmt, make_unit, literal, sum_of, is_short, is_new, is_known}
 use Rattle.st_expr.specs.Parse as p
 use Rattle.st_expr.specs.Parse.{Known, knows, none}
 use Rattle.st_expr.proofs.Known.{knows_has}
@@ -154,14 +154,28 @@ exact_sections = choose_none Var [] (bind_give {more = never} (λ s. s ∷ []) e
 
 -- ---- sums
 
+-- a number of this form
+a_number : Lexeme
+a_number = record { kind = Number; start = 0; end = 0; bytes = 48 ∷ []; behind = [] }
+
+a_number_short : is_short a_number ≡ true
+unfolding a_number
+a_number_short = refl
+
+exact_short : Exact Any (take_that is_short) (token_that is_short) never
+exact_short = exact_that is_short a_number a_number_short 0 0
+
+starts_short : Starts (token_that is_short) (Number ∷ [])
+starts_short = starts_that is_short Number (λ t. and_left _ _) 0 0
+
 exact_number : Exact Any p.number g.number never
 unfolding p.number
-exact_number = exact_node make_number (starts_long (starts_or (starts_bind (starts_token Minus 0 0)) (starts_bind (starts_token Number 0 0))))
-    (choose_kind Minus (then Minus (λ t. bind_give {more = never} (λ l. literal true l) (exact_token Number 0 0))) (bind_give {more = never} (λ l. literal false l) (exact_token Number 0 0))
-    (starts_bind (starts_token Minus 0 0)) (starts_bind (starts_token Number 0 0)) refl (λ rest e. (refl, refl)))
+exact_number = exact_node make_number (starts_long (starts_or (starts_bind (starts_token Minus 0 0)) (starts_bind starts_short)))
+    (choose_kind Minus (then Minus (λ t. bind_give {more = never} (λ l. literal true l) exact_short)) (bind_give {more = never} (λ l. literal false l) exact_short)
+    (starts_bind (starts_token Minus 0 0)) (starts_bind starts_short) refl (λ rest e. (refl, refl)))
 
 starts_number : Starts g.number (Minus ∷ Number ∷ [])
-starts_number = starts_node make_number (starts_or (starts_bind (starts_token Minus 0 0)) (starts_bind (starts_token Number 0 0)))
+starts_number = starts_node make_number (starts_or (starts_bind (starts_token Minus 0 0)) (starts_bind starts_short))
 
 exact_operator : Exact Any p.operator g.operator never
 unfolding p.operator

@@ -10,7 +10,7 @@ use Rattle.st_tree.specs.declared.tree.Identifier.{Identifier}
 use Rattle.st_tree.specs.declared.tree.Expr.{Expr}
 use Rattle.st_tree.specs.declared.tree.Stmt.{Stmt}
 use Rattle.st_tree.specs.declared.tree.Decl.{Decl}
-use Rattle.st_expr.specs.FirstForm.{make_identifier, make_path, make_spec, make_decl, make_section, make_number, make_stmt, make_unit, is_new, is_known, new_name, path, more_names, decl, more_decls, section, number, term, more_terms, stmt, more_stmts, program}
+use Rattle.st_expr.specs.FirstForm.{is_short, make_identifier, make_path, make_spec, make_decl, make_section, make_number, make_stmt, make_unit, is_new, is_known, new_name, path, more_names, decl, more_decls, section, number, term, more_terms, stmt, more_stmts, program}
 
 flat_kind : (k : TokenKind) → Flat (token k)
 flat_kind k = flat_that (is_kind k)
@@ -35,7 +35,7 @@ flat_section : Flat section
 flat_section = flat_node make_section (flat_bind (flat_kind Var) (λ first. flat_bind (flat_many [] flat_more_decls) (λ ds. flat_bind (flat_kind EndVar) (λ last. flat_give ds))))
 
 flat_number : Flat number
-flat_number = flat_node make_number (flat_or (flat_bind (flat_kind Minus) (λ minus. flat_bind (flat_kind Number) (λ l. flat_give _))) (flat_bind (flat_kind Number) (λ l. flat_give _)))
+flat_number = flat_node make_number (flat_or (flat_bind (flat_kind Minus) (λ minus. flat_bind (flat_that is_short) (λ l. flat_give _))) (flat_bind (flat_that is_short) (λ l. flat_give _)))
 
 flat_term : (names : Names) → Flat (term names)
 flat_term names = flat_or (flat_bind (flat_path names) (λ p. flat_give _)) flat_number

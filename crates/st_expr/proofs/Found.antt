@@ -4,7 +4,7 @@ use Rattle.std.proofs.lemmas.List.{append-nil}
 use Rattle.token_grammar.specs.declared.fault.ParseError.{ParseError}
 use Rattle.token_grammar.specs.declared.fault.ParseError.TheVariants.{Memory, Grammar, TooDeep}
 use Rattle.token_grammar.specs.declared.token.Token.{Token}
-use Rattle.token_grammar.specs.Texts.{Lexeme, lexemes}
+use Rattle.token_grammar.specs.Texts.{Lexeme}
 use Rattle.token_grammar.specs.Input.{Input, Stop, Outcome}
 use Rattle.token_grammar.specs.Grammar.{Word, lexemes_of, Spells}
 use Rattle.token_grammar.proofs.Laws.{input, ends}
@@ -13,7 +13,7 @@ use Rattle.token_grammar.proofs.Flat.{not_deep}
 use Rattle.st_tree.specs.declared.tree.Unit.{Unit as SourceUnit}
 use Rattle.st_tree.specs.Bare.{bare_unit}
 use Rattle.st_expr.specs.Answers.{Refuses, fault_of}
-use Rattle.st_expr.specs.FirstForm.{program, IsRefused, place_at}
+use Rattle.st_expr.specs.FirstForm.{program, words_of, IsRefused, place_at}
 use Rattle.st_expr.specs.Parse as p
 use Rattle.st_expr.proofs.Exactness.{exact_program}
 use Rattle.st_expr.proofs.Flat.{flat_program}
@@ -42,12 +42,12 @@ no_error : (x : SourceUnit) (o : Input) (s : Stop) → ok_of (x, o) ≡ Err s �
 no_error x o s e = cc
 
 -- a lexeme is left over
-pub left_over : (text : List ℕ) (tokens : List Token) (x : SourceUnit) (o : Input) (at : ℕ) → p.program (input 0 0 (lexemes text tokens)) ≡ Ok (x, o) → (o.rest ≡ [] → ⊥) → at ≡ place_at text o.rest → IsRefused text tokens at
+pub left_over : (text : List ℕ) (tokens : List Token) (x : SourceUnit) (o : Input) (at : ℕ) → p.program (input 0 0 (words_of text tokens)) ≡ Ok (x, o) → (o.rest ≡ [] → ⊥) → at ≡ place_at text o.rest → IsRefused text tokens at
 left_over text tokens x o at e some place =
-    let (r, stops) = reads exact_program refl (input 0 0 (lexemes text tokens)) tt x o e in
+    let (r, stops) = reads exact_program refl (input 0 0 (words_of text tokens)) tt x o e in
     record {
       unspelled = λ tree h.
-          let q = spelled_read (lexemes text tokens) (bare_unit h.unit) h.spelled in
+          let q = spelled_read (words_of text tokens) (bare_unit h.unit) h.spelled in
           some (ap (λ (i : Input). i.rest) (other_rest x (bare_unit h.unit) o q.0 (sym e ∙ q.1)) ∙ q.2);
       rest = o.rest;
       longest = record {
@@ -60,12 +60,12 @@ left_over text tokens x o at e some place =
     }
 
 -- the grammar goes on with none of the lexemes that are left
-stopped : (text : List ℕ) (tokens : List Token) (rest : List Lexeme) (at : ℕ) → p.program (input 0 0 (lexemes text tokens)) ≡ Err (record { code = Grammar; rest = rest }) → at ≡ place_at text rest → IsRefused text tokens at
+stopped : (text : List ℕ) (tokens : List Token) (rest : List Lexeme) (at : ℕ) → p.program (input 0 0 (words_of text tokens)) ≡ Err (record { code = Grammar; rest = rest }) → at ≡ place_at text rest → IsRefused text tokens at
 stopped text tokens rest at e place =
-    let (r, stops) = refuses exact_program refl (input 0 0 (lexemes text tokens)) tt (record { code = Grammar; rest = rest }) e in
+    let (r, stops) = refuses exact_program refl (input 0 0 (words_of text tokens)) tt (record { code = Grammar; rest = rest }) e in
     record {
       unspelled = λ tree h.
-          let q = spelled_read (lexemes text tokens) (bare_unit h.unit) h.spelled in
+          let q = spelled_read (words_of text tokens) (bare_unit h.unit) h.spelled in
           no_error (bare_unit h.unit) q.0 (record { code = Grammar; rest = rest }) (sym q.1 ∙ e);
       rest = rest;
       longest = record { front = lexemes_of r.word; tokens = r.tokens; begun = record { word = r.word; more = r.more; value = r.value; depth = r.depth; tokens = refl; spelled = r.spelled }; stops = stops refl };
@@ -77,8 +77,8 @@ no_depth ls rest e =
     let r = (refuses exact_program refl (input 0 0 ls) tt (record { code = TooDeep; rest = rest }) e).0 in
     not_deep r.word r.more rest (flat_program.flat 0 (r.word ++ r.more) r.value r.depth r.spelled).0 r.reason
 
-pub refused : (text : List ℕ) (tokens : List Token) (code : ParseError) (rest : List Lexeme) → (code ≢ Memory → p.program (input 0 0 (lexemes text tokens)) ≡ Err (record { code = code; rest = rest }))
+pub refused : (text : List ℕ) (tokens : List Token) (code : ParseError) (rest : List Lexeme) → (code ≢ Memory → p.program (input 0 0 (words_of text tokens)) ≡ Err (record { code = code; rest = rest }))
     → Refuses text tokens (fault_of code (place_at text rest))
 refused text tokens Memory rest e = tt
 refused text tokens Grammar rest e = (refl, stopped text tokens rest (place_at text rest) (e (λ is. cc)) refl)
-refused text tokens TooDeep rest e = absurd (no_depth (lexemes text tokens) rest (e (λ is. cc)))
+refused text tokens TooDeep rest e = absurd (no_depth (words_of text tokens) rest (e (λ is. cc)))

@@ -34,7 +34,7 @@ has_longer [] q lt = refl
 has_longer (n ∷ ns) q lt = rw (other_length q n (bytes_eq q n) refl (omega (arith, lt))) (has_longer ns q (omega (arith, lt)))
 
 pub fresh : Names → Lexeme
-fresh names = record { kind = Name; start = 0; end = 0; bytes = letters (suc (total names)) }
+fresh names = record { kind = Name; start = 0; end = 0; bytes = letters (suc (total names)); behind = [] }
 
 pub fresh_new : (names : Names) → is_new (has names) (fresh names) ≡ true
 unfolding fresh
@@ -60,7 +60,7 @@ or_true true = refl
 or_true false = refl
 
 name_lexeme : List ℕ → Lexeme
-name_lexeme n = record { kind = Name; start = 0; end = 0; bytes = n }
+name_lexeme n = record { kind = Name; start = 0; end = 0; bytes = n; behind = [] }
 
 unraised : (l : Lexeme) (n : List ℕ) (c : Bool) → bytes_eq (name_of l) n ≡ c → bytes_eq (map raised n) n ≡ false → c ≡ false
 unraised l n true e differs =

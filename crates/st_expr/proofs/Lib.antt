@@ -11,3 +11,5 @@ pub mod Flat
 pub mod Found
 pub mod OneTree
 pub mod Spelled
+mod Digits
+mod Short

@@ -1,7 +1,8 @@
 -- What a spelled unit is made of: names that it declares, numbers of the code, and places of the text.
-use Rattle.std.proofs.Common.{◌≡◌, ℕ, zero, suc, ◌≤◌, ◌<◌, ◌^◌, Bool, true, false, ◌&&◌, List, [], ◌∷◌, ◌++◌, length, refl, sym, ap, subst, ◌∙◌, arith, inl, inr}
+use Rattle.std.proofs.Common.{◌≡◌, ℕ, zero, suc, ◌≤◌, ◌<◌, ◌^◌, Bool, true, false, not, ◌&&◌, leb, List, [], ◌∷◌, ◌++◌, length, refl, sym, ap, subst, ◌∙◌, cond, arith, inl, inr}
 use Rattle.std.specs.Prelude.{map, flat_map}
-use Rattle.std.specs.List.{AllByRecursion, Contains}
+use Rattle.std.specs.List.{AllByRecursion, Contains, list_all, list_any, filter}
+use Rattle.std.proofs.lemmas.Bool.{leb-true}
 use Rattle.std.proofs.lemmas.List.{append-nil}
 use Rattle.std.proofs.lemmas.Grind.{flat_map-append}
 use Rattle.std.proofs.lemmas.List.Elements.{All-contains, All-contains_itself, All-weaker, All-map, All-from_recursion, recursion_from_All}
@@ -28,7 +29,7 @@ use Rattle.st_tree.specs.Nodes.{nodes_of, place_of, path_nodes, expr_nodes, stmt
 use Rattle.st_tree.specs.Bare.{node_at, bare_node, bare_expr, bare_stmt, bare_unit}
 use Rattle.st_tree.specs.Names.{Names, has, declared_in, ExprUses, StmtUses, BodyUses, UsesDeclared}
 use Rattle.st_expr.specs.FirstForm as form
-use Rattle.st_expr.specs.FirstForm.{Parts, IsTree, is_known, program}
+use Rattle.st_expr.specs.FirstForm.{Parts, IsTree, is_known, is_kept, words_of, program}
 use Rattle.st_expr.proofs.Trees.{binary_nodes, declared_in_bare}
 use Rattle.st_expr.proofs.OneTree.{unit}
 
@@ -90,9 +91,9 @@ module _ {P : Lexeme → Type 0} where
 
 -- ---- names and numbers
 
--- a number of the first form
-abbrev pub IsShort : Lexeme → Type 0
-IsShort l = is_kind Number l ≡ true → number_of l.bytes ≤ 32767
+-- nothing is asked of a lexeme
+abbrev pub AnyLexeme : Lexeme → Type 0
+AnyLexeme l = Unit {0}
 
 both_true : (a b : Bool) → (a && b) ≡ true → b ≡ true
 both_true true b e = e
@@ -115,50 +116,60 @@ IsSmall n = n.size < 2 ^ 127
 abbrev IsKnown : Names → Path → Type 0
 IsKnown names p = has names p.root.name ≡ true
 
-no_place : (w : Word) → Each IsShort w → Unit {0}
+no_place : (w : Word) → Each AnyLexeme w → Unit {0}
 no_place w h = tt
 
-path_uses : (names : Names) → Gives IsShort (form.path names) (IsKnown names)
+path_uses : (names : Names) → Gives AnyLexeme (form.path names) (IsKnown names)
 path_uses names =
     gives_node {R = λ i. has names i.name ≡ true} Any form.make_path no_place
     (gives_node {R = λ l. is_known (has names) l ≡ true} Any form.make_identifier no_place (gives_token (is_known (has names)) (λ l t p. t)) (λ start end l s t. both_true (is_kind Name l) (has names (name_of l)) t))
     (λ start end i s known. known)
 
-literal_small : (negative : Bool) → Gives IsShort (token Number >>= λ l. give (form.literal negative l)) IsSmall
-literal_small negative =
-    gives_then {R = λ l. number_of l.bytes ≤ 32767} (gives_token (is_kind Number) (λ l t p. p t)) (λ l le. gives_give (form.literal negative l) (kept_small (number_of l.bytes) le))
+short_least : (a b c d : Bool) → (a && ((b && c) && d)) ≡ true → c ≡ true
+short_least true true true d e = refl
+short_least true true false d e = absurd cc
+short_least true false c d e = absurd cc
+short_least false b c d e = absurd cc
 
-number_uses : (names : Names) → Gives IsShort form.number (ExprUses names)
+short_small : (l : Lexeme) → form.is_short l ≡ true → number_of l.bytes ≤ 32767
+short_small l e =
+    leb-true (number_of l.bytes) 32767 (short_least (is_kind Number l) (list_all form.is_decimal l.bytes) (leb (number_of l.bytes) 32767) (not (list_any form.goes_on l.behind)) e)
+
+literal_small : (negative : Bool) → Gives AnyLexeme (token_that form.is_short >>= λ l. give (form.literal negative l)) IsSmall
+literal_small negative =
+    gives_then {R = λ l. number_of l.bytes ≤ 32767} (gives_token form.is_short (λ l t p. short_small l t)) (λ l le. gives_give (form.literal negative l) (kept_small (number_of l.bytes) le))
+
+number_uses : (names : Names) → Gives AnyLexeme form.number (ExprUses names)
 number_uses names =
     gives_node {R = IsSmall} Any form.make_number no_place (gives_or (gives_then gives_any (λ minus any. literal_small true)) (literal_small false)) (λ start end n s small. small)
 
-term_uses : (names : Names) → Gives IsShort (form.term names) (ExprUses names)
+term_uses : (names : Names) → Gives AnyLexeme (form.term names) (ExprUses names)
 term_uses names = gives_or (gives_then (path_uses names) (λ p known. gives_give (expr.Variable p) known)) (number_uses names)
 
-more_terms_uses : (names : Names) (left : Expr) → ExprUses names left → Gives IsShort (form.more_terms names left) (ExprUses names)
+more_terms_uses : (names : Names) (left : Expr) → ExprUses names left → Gives AnyLexeme (form.more_terms names left) (ExprUses names)
 more_terms_uses names left h =
     gives_then gives_any (λ o any. gives_then (term_uses names) (λ right k. gives_give (form.sum_of left o right) (uses_binary names (node_at (place_of left).start (place_of right).end) o left right h k)))
 
-sum_uses : (names : Names) → Gives IsShort (form.sum names) (ExprUses names)
+sum_uses : (names : Names) → Gives AnyLexeme (form.sum names) (ExprUses names)
 sum_uses names = gives_then (term_uses names) (λ first h. gives_many (more_terms_uses names) first h)
 
-stmt_uses : (names : Names) → Gives IsShort (form.stmt names) (StmtUses names)
+stmt_uses : (names : Names) → Gives AnyLexeme (form.stmt names) (StmtUses names)
 stmt_uses names =
     gives_node {R = λ p. IsKnown names p.0 × ExprUses names p.1} Any form.make_stmt no_place
     (gives_then (path_uses names) (λ target known. gives_then gives_any (λ becomes any. gives_then (sum_uses names) (λ value uses. gives_then gives_any (λ semicolon any. gives_give (target, value) (known, uses))))))
     (λ start end p s h. h)
 
-more_stmts_uses : (names : Names) (body : List Stmt) → BodyUses names body → Gives IsShort (form.more_stmts names body) (BodyUses names)
+more_stmts_uses : (names : Names) (body : List Stmt) → BodyUses names body → Gives AnyLexeme (form.more_stmts names body) (BodyUses names)
 more_stmts_uses names body h = gives_then (stmt_uses names) (λ s k. gives_give (body ++ s ∷ []) (uses_push names body s h k))
 
-program_uses : Gives IsShort program UsesDeclared
+program_uses : Gives AnyLexeme program UsesDeclared
 program_uses =
     gives_node {R = λ (p : Parts). BodyUses (declared_in p.sections) p.body} Any form.make_unit no_place
     (gives_then gives_any (λ first any. gives_then gives_any (λ name any. gives_then gives_any (λ ss any.
     gives_then (gives_many (more_stmts_uses (declared_in ss)) [] tt) (λ body uses. gives_then gives_any (λ last any. gives_give _ uses))))))
     (λ start end p s uses. uses)
 
-pub spelled_uses : (d : ℕ) (w : Word) (u : SourceUnit) (e : ℕ) → program d w u e → Each IsShort w → UsesDeclared u
+pub spelled_uses : (d : ℕ) (w : Word) (u : SourceUnit) (e : ℕ) → program d w u e → Each AnyLexeme w → UsesDeclared u
 spelled_uses d w u e l h = program_uses.law d w u e l h
 
 -- ---- places
@@ -286,14 +297,20 @@ bare_start_by : (n : ℕ) (nodes : List Node) → StartBy n (map bare_node nodes
 bare_start_by n [] h = tt
 bare_start_by n (x ∷ nodes) h = (h.0, bare_start_by n nodes h.1)
 
-number_kind : (k : TokenKind) → same_kind k Number ≡ true → k ≡ Number
-number_kind Number e = refl
-number_kind k e = absurd cc
-
 -- what holds of each token holds of each lexeme
 each_token : (P : Lexeme → Type 0) (text : List ℕ) (tokens : List Token) → ((t : Token) → Contains tokens t → P (lexeme text t)) → AllByRecursion P (lexemes text tokens)
 each_token P text tokens f =
     recursion_from_All P (lexemes text tokens) (All-map P (lexeme text) tokens (All-weaker (Contains tokens) (λ (t : Token). P (lexeme text t)) f tokens (All-contains_itself tokens)))
+
+-- a token that is kept is one of the tokens
+kept_by : (t : Token) (ts : List Token) (u : Token) (b : Bool) → Contains (cond b (t ∷ filter is_kept ts) (filter is_kept ts)) u → (Contains (filter is_kept ts) u → Contains ts u) → Contains (t ∷ ts) u
+kept_by t ts u true (zero, lt, e) go = (zero, omega arith, e)
+kept_by t ts u true (suc k, lt, e) go = let c = go (k, omega (arith, lt), e) in (suc c.0, omega (arith, c.1), c.2)
+kept_by t ts u false h go = let c = go h in (suc c.0, omega (arith, c.1), c.2)
+
+pub kept_among : (tokens : List Token) (t : Token) → Contains (filter is_kept tokens) t → Contains tokens t
+kept_among [] t h = h
+kept_among (u ∷ us) t h = kept_by u us t (is_kept u) h (kept_among us t)
 
 -- The unit names what it declares, its numbers are numbers of the code, and its nodes start within the text.
 pub record IsSound (text : List ℕ) (tree : SourceTree) (u : SourceUnit) : Type 0 where
@@ -302,14 +319,13 @@ pub record IsSound (text : List ℕ) (tree : SourceTree) (u : SourceUnit) : Type
 
 pub tree_is_sound : (text : List ℕ) (tokens : List Token) (tree : SourceTree) (is : IsTree text tokens tree)
     → ((t : Token) → Contains tokens t → (t.start ≤ t.end) × (t.end ≤ length text))
-    → ((t : Token) → Contains tokens t → t.kind ≡ Number → number_of (lexeme text t).bytes ≤ 32767)
     → IsSound text tree is.unit
-tree_is_sound text tokens tree is placed short =
+tree_is_sound text tokens tree is placed =
     let s = is.spelled in
-    let shorts : AllByRecursion IsShort (lexemes text tokens) = each_token IsShort text tokens (λ t among sees. short t among (number_kind t.kind sees)) in
-    let starts : AllByRecursion (IsBy (length text)) (lexemes text tokens) =
-    each_token (IsBy (length text)) text tokens (λ t among. let p = placed t among in omega (arith, p.0, p.1)) in
-    let uses = spelled_uses 0 s.word (bare_unit is.unit) s.depth s.spelled (subst (AllByRecursion IsShort) (sym s.tokens) shorts) in
+    let any : AllByRecursion AnyLexeme (words_of text tokens) = each_token AnyLexeme text (filter is_kept tokens) (λ t among. tt) in
+    let starts : AllByRecursion (IsBy (length text)) (words_of text tokens) =
+    each_token (IsBy (length text)) text (filter is_kept tokens) (λ t among. let p = placed t (kept_among tokens t among) in omega (arith, p.0, p.1)) in
+    let uses = spelled_uses 0 s.word (bare_unit is.unit) s.depth s.spelled (subst (AllByRecursion AnyLexeme) (sym s.tokens) any) in
     let by = spelled_within (length text) 0 s.word (bare_unit is.unit) s.depth s.spelled (subst (AllByRecursion (IsBy (length text))) (sym s.tokens) starts) in
     let nodes = bare_start_by (length text) (unit_nodes is.unit) (subst (StartBy (length text)) (unit.bare_nodes is.unit) by) in
     let all = subst (λ (us : List SourceUnit). StartBy (length text) (flat_map unit_nodes us)) (sym is.units) (start_by_append (length text) (unit_nodes is.unit) [] nodes tt) in

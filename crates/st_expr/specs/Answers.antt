@@ -1,7 +1,6 @@
 -- What is promised of an answer of the parser.
 use Rattle.std.specs.Prelude.{◌≡◌, ℕ, List, Result, Ok, Err}
 use Rattle.token_grammar.specs.declared.token.Token.{Token}
-use Rattle.token_grammar.specs.Texts.{lexemes}
 use Rattle.token_grammar.specs.Grammar.{Spells}
 use Rattle.token_grammar.specs.declared.fault.ParseError.{ParseError}
 use Rattle.token_grammar.specs.declared.fault.ParseError.TheVariants as error
@@ -10,7 +9,7 @@ use Rattle.st_tree.specs.declared.tree.Unit.{Unit as SourceUnit}
 use Rattle.st_tree.specs.declared.tree.SourceTree.{SourceTree}
 use Rattle.st_tree.specs.Bare.{bare_unit}
 use Rattle.st_tree.specs.Nodes.{CountsFrom, unit_nodes}
-use Rattle.st_expr.specs.FirstForm.{program, IsTree, IsRefused}
+use Rattle.st_expr.specs.FirstForm.{program, words_of, IsTree, IsRefused}
 use Rattle.st_expr.specs.declared.file.ParseFault.{ParseFault}
 use Rattle.st_expr.specs.declared.file.ParseFault.TheVariants.{At, NoMemory}
 
@@ -31,5 +30,5 @@ Answers text tokens (Err fault) = Refuses text tokens fault
 
 -- the unit of that tree
 abbrev pub Parses : List ℕ → List Token → Result SourceUnit ParseFault → Type 0
-Parses text tokens (Ok unit) = Spells program (lexemes text tokens) (bare_unit unit) × CountsFrom 0 (unit_nodes unit)
+Parses text tokens (Ok unit) = Spells program (words_of text tokens) (bare_unit unit) × CountsFrom 0 (unit_nodes unit)
 Parses text tokens (Err fault) = Refuses text tokens fault

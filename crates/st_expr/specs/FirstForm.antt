@@ -9,13 +9,16 @@
 --     path    = name
 --
 -- A name is declared once, and a path names a declared variable. A minus where a term begins is part of the literal; behind a term it
--- is the operator. Sums group to the left. The code reads from left to right, with a look ahead at the operators of a sum, and numbers the nodes as it goes.
-use Rattle.std.specs.Prelude.{◌≡◌, ℕ, ◌-◌, ◌^◌, min, ◌&&◌, Bool, true, false, not, List, [], ◌∷◌, ◌++◌, length}
+-- is the operator. Sums group to the left. A number is decimal digits of a value up to 32767, directly behind which neither `#` nor `.` stands. Comments and pragmas
+-- are passed over. The code reads from left to right, with a look ahead at the operators of a sum, and numbers the nodes as it goes.
+use Rattle.std.specs.Prelude.{◌≡◌, ℕ, ◌-◌, ◌^◌, min, ◌&&◌, ◌||◌, Bool, true, false, not, nat_eq, nat_le, List, [], ◌∷◌, ◌++◌, length}
+use Rattle.std.specs.List.{list_all, list_any, filter}
 use Rattle.iec_tables.specs.declared.elem.Elem.TheVariants as elem
-use Rattle.token_grammar.specs.declared.token.TokenKind.TheVariants.{Program, EndProgram, Var, EndVar, Int, Name, Number, Becomes, Colon, Comma, Semicolon, Plus, Minus}
+use Rattle.token_grammar.specs.declared.token.TokenKind.{TokenKind}
+use Rattle.token_grammar.specs.declared.token.TokenKind.TheVariants.{Comment, Pragma, Program, EndProgram, Var, EndVar, Int, Name, Number, Becomes, Colon, Comma, Semicolon, Plus, Minus}
 use Rattle.token_grammar.specs.declared.token.Token.{Token}
 use Rattle.token_grammar.specs.Texts.{Lexeme, lexemes, name_of, number_of}
-use Rattle.token_grammar.specs.Kinds.{is_kind}
+use Rattle.token_grammar.specs.Kinds.{same_kind, is_kind}
 use Rattle.token_grammar.specs.Grammar.{Rule, give, token, token_that, ◌>>=◌, ◌or◌, many, node, Spells, IsLongest}
 use Rattle.st_tree.specs.declared.tree.Identifier.{Identifier}
 use Rattle.st_tree.specs.declared.tree.Path.{Path}
@@ -78,6 +81,23 @@ pub record Parts : Type 0 where
 
 abbrev pub make_unit : ℕ → ℕ → Parts → SourceUnit
 make_unit start end p = record { node = node_at start end; name = p.name; sections = p.sections; body = p.body }
+
+-- ---- numbers
+
+abbrev pub is_decimal : ℕ → Bool
+is_decimal byte = nat_le 48 byte && nat_le byte 57
+
+-- `#` or `.`
+abbrev pub goes_on : ℕ → Bool
+goes_on byte = nat_eq byte 35 || nat_eq byte 46
+
+-- decimal digits of a value up to 32767
+abbrev pub is_short_numeral : List ℕ → Bool
+is_short_numeral digits = list_all is_decimal digits && nat_le (number_of digits) 32767
+
+-- a number of this form
+abbrev pub is_short : Lexeme → Bool
+is_short l = is_kind Number l && (is_short_numeral l.bytes && not (list_any goes_on l.behind))
 
 -- ---- names
 
@@ -148,7 +168,7 @@ sections = (section >>= λ s. give (s ∷ [])) or give []
 -- a number, a minus directly before it taken in
 abbrev pub number : Rule Expr
 number = node make_number
-    ((token Minus >>= λ minus. token Number >>= λ l. give (literal true l)) or (token Number >>= λ l. give (literal false l)))
+    ((token Minus >>= λ minus. token_that is_short >>= λ l. give (literal true l)) or (token_that is_short >>= λ l. give (literal false l)))
 
 abbrev pub term : Names → Rule Expr
 term names = (path names >>= λ p. give (expr.Variable p)) or number
@@ -189,13 +209,24 @@ program = node make_unit (do
 
 -- ---- files
 
+-- the grammar passes over comments and pragmas
+abbrev pub keeps : TokenKind → Bool
+keeps kind = not (same_kind kind Comment || same_kind kind Pragma)
+
+abbrev pub is_kept : Token → Bool
+is_kept t = keeps t.kind
+
+-- the lexemes of the tokens that are kept
+abbrev pub words_of : List ℕ → List Token → List Lexeme
+words_of text tokens = lexemes text (filter is_kept tokens)
+
 -- The tokens of a text spell this tree: that of one program, its nodes numbered, with the text's line feeds.
 pub record IsTree (text : List ℕ) (tokens : List Token) (tree : SourceTree) : Type 0 where
   pub unit : SourceUnit
   pub units : tree.units ≡ unit ∷ []
   pub feeds : tree.feeds ≡ feeds_from 0 text
   -- (what is spelled has no numbers)
-  pub spelled : Spells program (lexemes text tokens) (bare_unit unit)
+  pub spelled : Spells program (words_of text tokens) (bare_unit unit)
   pub numbered : IsNumbered tree
 
 -- the first byte of the next lexeme, or the text's length
@@ -207,5 +238,5 @@ place_at text (l ∷ ls) = l.start
 pub record IsRefused (text : List ℕ) (tokens : List Token) (at : ℕ) : Type 0 where
   pub unspelled : (tree : SourceTree) → IsTree text tokens tree → ⊥
   pub rest : List Lexeme
-  pub longest : IsLongest program (lexemes text tokens) rest
+  pub longest : IsLongest program (words_of text tokens) rest
   pub place : at ≡ place_at text rest

@@ -2,8 +2,6 @@
 use Rattle.std.specs.Prelude.{◌≡◌, ℕ, ◌≤◌, List, length}
 use Rattle.std.specs.List.{Contains}
 use Rattle.token_grammar.specs.declared.token.Token.{Token}
-use Rattle.token_grammar.specs.declared.token.TokenKind.TheVariants.{Number}
-use Rattle.token_grammar.specs.Texts.{lexeme, number_of}
 use Rattle.st_tree.specs.declared.node.Node.{Node}
 use Rattle.st_tree.specs.declared.tree.SourceTree.{SourceTree}
 use Rattle.st_tree.specs.Nodes.{nodes_of}
@@ -18,12 +16,8 @@ OneTree = (text : List ℕ) (tokens : List Token) (tree other : SourceTree) → 
 abbrev pub AreIn : List ℕ → List Token → Type 0
 AreIn text tokens = (t : Token) → Contains tokens t → (t.start ≤ t.end) × (t.end ≤ length text)
 
--- each number is at most 32767
-abbrev pub AreShort : List ℕ → List Token → Type 0
-AreShort text tokens = (t : Token) → Contains tokens t → t.kind ≡ Number → number_of (lexeme text t).bytes ≤ 32767
-
 -- The unit of a tree names declared variables alone, and the nodes of the tree start within the text.
 abbrev pub SoundTree : Type 0
 SoundTree =
-    (text : List ℕ) (tokens : List Token) (tree : SourceTree) (is : IsTree text tokens tree) → AreIn text tokens → AreShort text tokens →
+    (text : List ℕ) (tokens : List Token) (tree : SourceTree) (is : IsTree text tokens tree) → AreIn text tokens →
     UsesDeclared is.unit × ((m : Node) → Contains (nodes_of tree) m → m.start ≤ length text)

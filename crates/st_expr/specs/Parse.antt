@@ -1,6 +1,6 @@
 -- The first form as functions on lexemes: a step on the way from the code to the grammar of `FirstForm`.
 use Rattle.std.specs.Prelude.{ℕ, Bool, true, false, ◌||◌, List, [], ◌∷◌, ◌++◌}
-use Rattle.token_grammar.specs.declared.token.TokenKind.TheVariants.{Program, EndProgram, Var, EndVar, Int, Name, Number, Becomes, Colon, Comma, Semicolon, Plus, Minus}
+use Rattle.token_grammar.specs.declared.token.TokenKind.TheVariants.{Program, EndProgram, Var, EndVar, Int, Name, Becomes, Colon, Comma, Semicolon, Plus, Minus}
 use Rattle.token_grammar.specs.Texts.{Lexeme}
 use Rattle.token_grammar.specs.Kinds.{is_kind}
 use Rattle.token_grammar.specs.Input.{Parser, ◌>>=◌, pure, take, take_that, node, choose, repeated, sees_in}
@@ -16,7 +16,7 @@ use Rattle.st_tree.specs.declared.tree.Decl.{Decl}
 use Rattle.st_tree.specs.declared.tree.Section.{Section}
 use Rattle.st_tree.specs.declared.tree.Unit.{Unit as SourceUnit}
 use Rattle.st_tree.specs.Names.{Names, has, names_of, declared, declared_in}
-use Rattle.st_expr.specs.FirstForm.{make_identifier, make_path, make_spec, make_decl, make_section, literal, make_number, sum_of, make_stmt, make_unit, is_new, is_known}
+use Rattle.st_expr.specs.FirstForm.{make_identifier, make_path, make_spec, make_decl, make_section, literal, make_number, sum_of, make_stmt, make_unit, is_short, is_new, is_known}
 
 -- which names are declared
 abbrev pub Known : Type 0
@@ -67,7 +67,7 @@ sections known = choose (sees_in Var) (section known >>= λ s. pure (s ∷ [])) 
 
 unfoldable pub number : Parser Expr
 number = node make_number (choose (sees_in Minus)
-    (take Minus >>= λ _. take Number >>= λ l. pure (literal true l)) (take Number >>= λ l. pure (literal false l)))
+    (take Minus >>= λ _. take_that is_short >>= λ l. pure (literal true l)) (take_that is_short >>= λ l. pure (literal false l)))
 
 unfoldable pub term : Known → Parser Expr
 term known = choose (sees_in Name) (path known >>= λ p. pure (expr.Variable p)) number

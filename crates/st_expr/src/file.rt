@@ -1,9 +1,11 @@
 // The tree of a text of the first form, or the place at which it stops being one.
 
-ghost use Rattle.std.specs.Prelude.{◌≡◌, ◌+◌, IfOk, [], ◌∷◌, length};
+ghost use Rattle.std.specs.Prelude.{◌≡◌, ◌+◌, IfOk, List, [], ◌∷◌, length};
 ghost use Rattle.token_grammar.specs.Input.{view};
 ghost use Rattle.st_tree.specs.Feeds.{feeds_from};
-ghost use Rattle.st_expr.specs.FirstForm.{place_at};
+ghost use Rattle.std.specs.List.{filter};
+ghost use Rattle.token_grammar.specs.declared.token.Token.{Token as Lexed};
+ghost use Rattle.st_expr.specs.FirstForm.{is_kept, keeps, place_at};
 ghost use Rattle.st_expr.specs.Answers.{Answers, Parses, fault_of};
 
 use crate::parser::Parser;
@@ -13,7 +15,7 @@ use st_tree::{SourceTree, Unit};
 use station_ports::steps::Steps;
 use std::alloc::{AllocError, Global};
 use std::sync::ledger::Ledger;
-use token_grammar::{Cursor, ParseError, Token, Tokens};
+use token_grammar::{Cursor, ParseError, Token, TokenKind, Tokens};
 
 /// Why there is no tree: a fault and its place in bytes, or no memory.
 #[derive(Clone, Copy, Debug, PartialEq, Eq)]
@@ -33,24 +35,39 @@ impl From<AllocError> for ParseFault {
 }
 
 /// The tree that the tokens of a file spell. Where they spell none, the fault stands at the first token with which they no longer
-/// begin a text of the first form, or at the text's length. Counts one parse step a token.
+/// begin a text of the first form, or at the text's length. Comments and pragmas are passed over. Counts one parse step a token, these
+/// among them.
 pub fn first_form<L: Ledger>(
     alloc: Global,
-    tokens: &Tokens<'_>,
+    mut tokens: Tokens<'_>,
     steps: &mut Steps<L>,
 ) -> Result<SourceTree, ParseFault>
-    ensures answers { Answers tokens.now.text.now tokens.now.list.items result }
-    ensures parsed { steps.new.parsed ≡ steps.old.parsed + length tokens.now.list.items }
+    ensures answers { Answers tokens.entry.text.now tokens.entry.list.items result }
+    ensures parsed { steps.new.parsed ≡ steps.old.parsed + length tokens.entry.list.items }
     ensures solved { steps.new.solved ≡ steps.old.solved }
 {
     count_steps(&tokens.list, steps);
-    let unit = only_program(alloc, tokens)?;
+    drop_comments(&mut tokens.list);
+    let unit = only_program(alloc, &tokens)?;
     Ok(tree_of(alloc, tokens.text, unit)?)
+}
+
+/// Drops comments and pragmas, in place.
+fn drop_comments(tokens: &mut Vec<Token>)
+    ensures { tokens.new.items ≡ filter is_kept tokens.old.items }
+{
+    tokens.retain(|token| is_kept(token.kind));
+}
+
+fn is_kept(kind: TokenKind) -> bool
+    ensures { result ≡ keeps kind }
+{
+    !matches!(kind, TokenKind::Comment | TokenKind::Pragma)
 }
 
 /// The program that all the tokens spell.
 fn only_program(alloc: Global, tokens: &Tokens<'_>) -> Result<Unit, ParseFault>
-    ensures { Parses tokens.now.text.now tokens.now.list.items result }
+    ensures { (all : List Lexed) → tokens.now.list.items ≡ filter is_kept all → Parses tokens.now.text.now all result }
 {
     let mut parser = Parser::new(alloc, tokens);
     match parser.program() {

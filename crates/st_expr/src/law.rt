@@ -3,7 +3,7 @@
 ghost use Rattle.st_expr.specs.Laws.{OneTree, SoundTree};
 
 /// A text has one tree at most. A tree names the variables that it declares alone, and its nodes start within the text, where the
-/// tokens lie within the text and numbers are at most 32767.
+/// tokens do.
 pub fn tree_laws()
     ensures one { OneTree }
     ensures sound { SoundTree }

@@ -5,6 +5,7 @@ mod declarations;
 mod file;
 mod law;
 mod names;
+mod numbers;
 mod parser;
 mod program;
 mod sums;

@@ -102,7 +102,7 @@ impl<'t> Parser<'t> {
         if negative {
             self.cursor.take(TokenKind::Minus)?;
         }
-        let token = self.cursor.take(TokenKind::Number)?;
+        let token = self.short_number()?;
         let size = value_of(self.cursor.bytes(token));
         Ok(Expr::Number(
             Node {

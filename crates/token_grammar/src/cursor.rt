@@ -65,6 +65,15 @@ impl<'t> Cursor<'t> {
         }
     }
 
+    /// The byte behind a token of this text, if there is one.
+    pub fn behind(&self, token: Token) -> &'t [u8]
+        ensures { result.now ≡ (lexeme self.now.text.now token).behind }
+    {
+        let text = self.text;
+        let from = &text[token.end.min(text.len())..];
+        &from[..from.len().min(1)]
+    }
+
     /// The bytes of a token of this text.
     pub fn bytes(&self, token: Token) -> &'t [u8]
         ensures { result.now ≡ (lexeme self.now.text.now token).bytes }

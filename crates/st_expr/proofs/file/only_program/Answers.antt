@@ -1,4 +1,4 @@
-use Rattle.std.proofs.Common.{◌≡◌, ◌≢◌, ℕ, List, [], ◌∷◌, Ok, Err, refl, ap, subst, arith}
+use Rattle.std.proofs.Common.{◌≡◌, ◌≢◌, ℕ, List, [], ◌∷◌, Ok, Err, refl, ap, subst, ◌∙◌, arith}
 use Rattle.std.proofs.lemmas.Grind.{common_steps}
 use Rattle.token_grammar.specs.declared.fault.ParseError.TheVariants.{Memory}
 use Rattle.token_grammar.specs.declared.token.Token.{Token}
@@ -7,7 +7,7 @@ use Rattle.token_grammar.specs.Input.{Input, view}
 use Rattle.token_grammar.proofs.Laws.{input}
 use Rattle.st_tree.specs.Bare.{bare_unit}
 use Rattle.st_tree.specs.Nodes.{CountsFrom, unit_nodes}
-use Rattle.st_expr.specs.FirstForm.{place_at}
+use Rattle.st_expr.specs.FirstForm.{words_of, place_at}
 use Rattle.st_expr.specs.Parse as p
 use Rattle.st_expr.proofs.Found.{all_spelled, left_over, refused}
 use Rattle.st_expr.proofs.file.only_program.Goals as goal
@@ -18,9 +18,10 @@ some_left text (t ∷ rest) some e = cc
 
 pub returns-then-is_empty : goal.returns-then-is_empty
 returns-then-is_empty c =
-    let ls = lexemes c.args.tokens.now.text.now c.args.tokens.now.list.items in
+    λ all kept.
+    let ls = words_of c.args.tokens.now.text.now all in
     let e : p.program (input 0 0 ls) ≡ Ok (bare_unit c.in-Ok.unit, view c.program.new.self.cursor) =
-    subst (λ (i : Input). p.program i ≡ Ok (bare_unit c.in-Ok.unit, view c.program.new.self.cursor)) c.new-parser.ensures.view c.in-Ok.ensures.reads in
+    subst (λ (i : Input). p.program i ≡ Ok (bare_unit c.in-Ok.unit, view c.program.new.self.cursor)) (c.new-parser.ensures.view ∙ ap (λ (ts : List Token). input 0 0 (lexemes c.args.tokens.now.text.now ts)) kept) c.in-Ok.ensures.reads in
     let none : c.program.new.self.cursor.rest.now ≡ [] = grind (arith, common_steps, c.is_empty.ensures, c.if-is_empty.true) in (
       all_spelled ls (bare_unit c.in-Ok.unit) (view c.program.new.self.cursor) e (ap (lexemes c.program.new.self.cursor.text.now) none),
       subst (λ (n : ℕ). CountsFrom n (unit_nodes c.in-Ok.unit)) c.new-parser.ensures.next c.in-Ok.ensures.numbers.0,
@@ -29,20 +30,22 @@ returns-then-is_empty c =
 pub returns-else-is_empty : goal.returns-else-is_empty
 returns-else-is_empty c =
     let text = c.args.tokens.now.text.now in
-    let ls = lexemes text c.args.tokens.now.list.items in
+    λ all kept.
+    let ls = words_of text all in
     let e : p.program (input 0 0 ls) ≡ Ok (bare_unit c.in-Ok.unit, view c.program.new.self.cursor) =
-    subst (λ (i : Input). p.program i ≡ Ok (bare_unit c.in-Ok.unit, view c.program.new.self.cursor)) c.new-parser.ensures.view c.in-Ok.ensures.reads in
+    subst (λ (i : Input). p.program i ≡ Ok (bare_unit c.in-Ok.unit, view c.program.new.self.cursor)) (c.new-parser.ensures.view ∙ ap (λ (ts : List Token). input 0 0 (lexemes c.args.tokens.now.text.now ts)) kept) c.in-Ok.ensures.reads in
     let some : c.program.new.self.cursor.rest.now ≡ [] → ⊥ = λ none. grind (arith, common_steps, c.is_empty.ensures, c.if-is_empty.false) in
     rw c.fault_at.ensures (
       refl,
-      left_over text c.args.tokens.now.list.items (bare_unit c.in-Ok.unit) (view c.program.new.self.cursor) (place_at text (view c.program.new.self.cursor).rest) e
+      left_over text all (bare_unit c.in-Ok.unit) (view c.program.new.self.cursor) (place_at text (view c.program.new.self.cursor).rest) e
           (some_left c.program.new.self.cursor.text.now c.program.new.self.cursor.rest.now some) refl,
     )
 
 pub returns-in-Err : goal.returns-in-Err
 returns-in-Err c =
     let text = c.args.tokens.now.text.now in
-    let ls = lexemes text c.args.tokens.now.list.items in
+    λ all kept.
+    let ls = words_of text all in
     let e : c.in-Err.error ≢ Memory → p.program (input 0 0 ls) ≡ Err (record { code = c.in-Err.error; rest = (view c.program.new.self.cursor).rest }) = λ some.
-    subst (λ (i : Input). p.program i ≡ Err (record { code = c.in-Err.error; rest = (view c.program.new.self.cursor).rest })) c.new-parser.ensures.view (c.in-Err.ensures.reads some) in
-    rw c.fault_at-in-Err.ensures (refused text c.args.tokens.now.list.items c.in-Err.error (view c.program.new.self.cursor).rest e)
+    subst (λ (i : Input). p.program i ≡ Err (record { code = c.in-Err.error; rest = (view c.program.new.self.cursor).rest })) (c.new-parser.ensures.view ∙ ap (λ (ts : List Token). input 0 0 (lexemes c.args.tokens.now.text.now ts)) kept) (c.in-Err.ensures.reads some) in
+    rw c.fault_at-in-Err.ensures (refused text all c.in-Err.error (view c.program.new.self.cursor).rest e)

@@ -1,5 +1,5 @@
 use Rattle.std.proofs.Common.{sym, ◌∙◌}
-use Rattle.token_grammar.specs.Texts.{lexemes}
+use Rattle.st_expr.specs.FirstForm.{words_of}
 use Rattle.st_tree.specs.Bare.{bare_unit}
 use Rattle.st_expr.proofs.Found.{one_spelled}
 use Rattle.st_expr.proofs.OneTree.{same_tree}
@@ -9,7 +9,7 @@ use Rattle.st_expr.proofs.law.tree_laws.Goals as goal
 pub returns-clause-one : goal.returns-clause-one
 returns-clause-one c = λ text tokens tree other h k.
     same_tree tree other h.unit k.unit h.units k.units (h.feeds ∙ sym k.feeds)
-    (one_spelled (lexemes text tokens) (bare_unit h.unit) (bare_unit k.unit) h.spelled k.spelled) h.numbered k.numbered
+    (one_spelled (words_of text tokens) (bare_unit h.unit) (bare_unit k.unit) h.spelled k.spelled) h.numbered k.numbered
 
 pub returns-clause-sound : goal.returns-clause-sound
-returns-clause-sound c = λ text tokens tree is within short. let s = tree_is_sound text tokens tree is within short in (s.uses, s.within)
+returns-clause-sound c = λ text tokens tree is within. let s = tree_is_sound text tokens tree is within in (s.uses, s.within)

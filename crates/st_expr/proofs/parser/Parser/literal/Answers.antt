@@ -1,18 +1,20 @@
 use Rattle.std.proofs.Common.{◌≡◌, true, false, sym, ap, ◌∙◌}
-use Rattle.token_grammar.specs.declared.token.TokenKind.TheVariants.{Minus, Number}
+use Rattle.token_grammar.specs.declared.token.TokenKind.TheVariants.{Minus}
 use Rattle.token_grammar.specs.Texts.{lexeme}
 use Rattle.token_grammar.specs.Kinds.{is_kind}
 use Rattle.token_grammar.specs.Input.{view}
 use Rattle.token_grammar.proofs.Taken.{taken}
 use Rattle.st_expr.specs.Ahead.{operators}
+use Rattle.st_expr.specs.FirstForm.{is_short}
 use Rattle.st_expr.proofs.Ahead.{after_minus, after_number}
+use Rattle.st_expr.proofs.Short.{short_kind}
 use Rattle.st_expr.proofs.parser.Parser.literal.Goals as goal
 use Rattle.st_expr.proofs.parser.Parser.literal.Goals.{then-negative+in_ok-take, else-negative}
 
 pub returns-clause-ahead : goal.returns-clause-ahead
 returns-clause-ahead c =
-    let n = taken (is_kind Number) (view c.if-negative.self.cursor) (lexeme c.if-negative.self.cursor.text.now c.in_ok-token.token) (view c.take-2.new.self) c.in_ok-token.ensures.reads in
-    let number : operators false (view c.if-negative.self.cursor).rest ≡ operators true (view c.take-2.new.self).rest = ap (operators false) n.list ∙ after_number _ _ n.passed in
+    let n = taken is_short (view c.if-negative.self.cursor) (lexeme c.if-negative.self.cursor.text.now c.in_ok-token.token) (view c.short_number.new.self.cursor) c.in_ok-token.ensures.reads in
+    let number : operators false (view c.if-negative.self.cursor).rest ≡ operators true (view c.short_number.new.self.cursor).rest = ap (operators false) n.list ∙ after_number _ _ (short_kind (lexeme c.if-negative.self.cursor.text.now c.in_ok-token.token) n.passed) in
     let start = ap (λ cursor. operators false (view cursor).rest) (sym c.number.ensures.cursor) in
     elim c.if-negative.branch [
       | then-negative+in_ok-take w ↦
