@@ -23,3 +23,4 @@ mod OneKind
 mod Cuts
 mod Utf8
 mod CutLaws
+mod Places

@@ -5,4 +5,5 @@ pub mod Faulty
 pub mod Cut
 pub mod Front
 pub mod Answers
+pub mod Placed
 pub mod Laws

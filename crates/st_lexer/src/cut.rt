@@ -75,10 +75,12 @@ fn mark_length(text: &[u8]) -> usize
     }
 }
 
-/// Each text has exactly one cut or exactly one fault.
+/// Each text has exactly one cut or exactly one fault, and where they stand is a place of the text.
 pub fn cut_laws()
     ensures some { laws.SomeCut }
     ensures one_cut { laws.OneCut }
     ensures one_fault { laws.OneFault }
     ensures not_both { laws.NotBoth }
+    ensures tokens_in { laws.TokensIn }
+    ensures fault_in { laws.FaultIn }
 {}
