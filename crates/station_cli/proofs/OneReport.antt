@@ -5,18 +5,20 @@ use Rattle.std.specs.List.{Contains}
 use Rattle.std.proofs.lemmas.Option.{same_Some}
 use Rattle.interval_domain.proofs.OneGrid.{one_grid}
 use Rattle.token_grammar.specs.declared.token.Token.{Token}
-use Rattle.token_grammar.specs.Texts.{Lexeme, lexemes}
+use Rattle.token_grammar.specs.Texts.{Lexeme}
 use Rattle.token_grammar.specs.Grammar.{IsLongest}
 use Rattle.token_grammar.proofs.OneFront.{one_rest}
-use Rattle.st_lexer.specs.Cut.{IsCut}
-use Rattle.iec_tables.specs.declared.fault.FaultCode.TheVariants.{NotBuilt}
+use Rattle.st_lexer.specs.Cut.{IsCut, IsFault}
+use Rattle.st_lexer.specs.Laws.{OneCut, OneFault, NotBoth}
+use Rattle.iec_tables.specs.declared.fault.FaultCode.{FaultCode}
+use Rattle.iec_tables.specs.declared.fault.FaultCode.TheVariants.{NotUtf8, BadByte, OpenComment, BadNumber, BadName, NotBuilt}
 use Rattle.st_tree.specs.declared.tree.Unit.{Unit as SourceUnit}
 use Rattle.st_tree.specs.declared.tree.SourceTree.{SourceTree}
 use Rattle.st_tree.specs.declared.code.TaskCode.{TaskCode}
 use Rattle.st_tree.specs.declared.code.Component.{Component}
 use Rattle.st_tree.specs.Code.{reading}
 use Rattle.st_tree.specs.Nodes.{IsNumbered}
-use Rattle.st_expr.specs.FirstForm.{program, place_at, IsTree, IsRefused}
+use Rattle.st_expr.specs.FirstForm.{program, place_at, words_of, IsTree, IsRefused}
 use Rattle.st_expr.specs.Laws.{OneTree}
 use Rattle.task_config.specs.Plan.{IsTask, IsComponent}
 use Rattle.cycle_analysis.specs.Pass.{Entry as Told, Passed}
@@ -25,14 +27,10 @@ use Rattle.cycle_analysis.proofs.OneTable.{AreAlike, same_pass, one_table}
 use Rattle.finding_spans.proofs.OnePosition.{one_position}
 use Rattle.finding_spans.specs.declared.report.Refusal.{Refusal}
 use Rattle.finding_spans.specs.declared.report.Report.{Report}
-use Rattle.station_cli.specs.Report.{AreAlarms, AreRanges, IsReportOf, IsAnalysed, IsRefusal, IsReport}
+use Rattle.station_cli.specs.Report.{AreAlarms, AreRanges, IsReportOf, IsAnalysed, IsFaultAt, IsRefusal, IsReport}
 use Rattle.station_cli.proofs.OneAlarms.{one_alarms}
 use Rattle.station_cli.proofs.OneRanges.{one_ranges}
 use Rattle.station_cli.proofs.OneVerdict.{one_plain, one_refused}
-
--- a text has one cut
-abbrev pub OneCut : Type 0
-OneCut = (text : List ℕ) (xs ys : List Token) → IsCut text xs → IsCut text ys → xs ≡ ys
 
 -- ---- a text that is analysed
 
@@ -78,32 +76,50 @@ one_report_of name text tree made other numbered a b =
 
 -- ---- a text that is refused
 
-abbrev refusal_at : (name : List ℕ) → (line column : ℕ) → Refusal
-refusal_at name line column = record { file = name; line = line; column = column; code = NotBuilt }
+abbrev refusal_at : (name : List ℕ) → (line column : ℕ) → FaultCode → Refusal
+refusal_at name line column code = record { file = name; line = line; column = column; code = code }
 
-one_refusal : (name text : List ℕ) (made other : Report) → (a : IsRefusal name text made) (b : IsRefusal name text other) → a.tokens ≡ b.tokens → made ≡ other
-one_refusal name text made other a b e =
-    let longest : IsLongest program (lexemes text a.tokens) b.refused.rest = subst (λ (ts : List Token). IsLongest program (lexemes text ts) b.refused.rest) (sym e) b.refused.longest in
-    let rest : a.refused.rest ≡ b.refused.rest = one_rest program (lexemes text a.tokens) a.refused.rest b.refused.rest a.refused.longest longest in
-    let at : a.at ≡ b.at = a.refused.place ∙ ap (λ (ls : List Lexeme). place_at text ls) rest ∙ sym b.refused.place in
-    let position = one_position text a.at b.at a.line a.column b.line b.column at a.position b.position in
-    one_refused made other (refusal_at name a.line a.column) (refusal_at name b.line b.column) a.verdict_is b.verdict_is (λ i. refusal_at name (position.0 i) (position.1 i)) a.counted b.counted a.waived b.waived
+-- the tokens no longer spell anything at one place
+one_place : (text : List ℕ) (tokens : List Token) (at place : ℕ) → IsRefused text tokens at → IsRefused text tokens place → at ≡ place
+one_place text tokens at place a b =
+    let rest : a.rest ≡ b.rest = one_rest program (words_of text tokens) a.rest b.rest a.longest b.longest in
+    a.place ∙ ap (λ (ls : List Lexeme). place_at text ls) rest ∙ sym b.place
 
--- what is analysed isn't refused
-not_both : (text : List ℕ) (xs ys : List Token) (tree : SourceTree) (at : ℕ) → xs ≡ ys → IsTree text xs tree → IsRefused text ys at → ⊥
-not_both text xs ys tree at e is refused = refused.unspelled tree (subst (λ (ts : List Token). IsTree text ts tree) e is)
+-- what is analysed isn't refused for its grammar
+not_refused : (text : List ℕ) (xs ys : List Token) (tree : SourceTree) (at : ℕ) → xs ≡ ys → IsTree text xs tree → IsRefused text ys at → ⊥
+not_refused text xs ys tree at e is refused = refused.unspelled tree (subst (λ (ts : List Token). IsTree text ts tree) e is)
 
 -- ---- the law, from those of the lexer and the parser
 
-module _ (one_cut : OneCut) (one_tree : OneTree) where
+module _ (one_cut : OneCut) (one_fault : OneFault) (not_both : NotBoth) (one_tree : OneTree) where
   analysed : (name text : List ℕ) (made other : Report) → IsAnalysed name text made → IsAnalysed name text other → made ≡ other
   analysed name text made other a b =
       let tokens : a.tokens ≡ b.tokens = one_cut text a.tokens b.tokens a.cut b.cut in
       let tree : a.tree ≡ b.tree = one_tree text b.tokens a.tree b.tree (subst (λ (ts : List Token). IsTree text ts a.tree) tokens a.spelled) b.spelled in
       one_report_of name text b.tree made other b.spelled.numbered (subst (λ (t : SourceTree). IsReportOf name text t made) tree a.report) b.report
 
+  -- a text has one fault at most
+  same_fault : (text : List ℕ) (c d : FaultCode) (at place : ℕ) → IsFaultAt text c at → IsFaultAt text d place → (c ≡ d) × (at ≡ place)
+  same_fault text c d at place (inl x) (inl y) = one_fault text c d at place x y
+  same_fault text c d at place (inl x) (inr (e, tokens, cut, r)) = absurd (not_both text tokens c at cut x)
+  same_fault text c d at place (inr (e, tokens, cut, r)) (inl y) = absurd (not_both text tokens d place cut y)
+  same_fault text c d at place (inr (e, xs, x, r)) (inr (f, ys, y, s)) =
+      (e ∙ sym f, one_place text ys at place (subst (λ (ts : List Token). IsRefused text ts at) (one_cut text xs ys x y) r) s)
+
+  -- a text with a fault isn't analysed
+  faultless : (name text : List ℕ) (made : Report) (code : FaultCode) (at : ℕ) → IsAnalysed name text made → IsFaultAt text code at → ⊥
+  faultless name text made code at a (inl x) = not_both text a.tokens code at a.cut x
+  faultless name text made code at a (inr (e, tokens, cut, r)) = not_refused text a.tokens tokens a.tree at (one_cut text a.tokens tokens a.cut cut) a.spelled r
+
+  one_refusal : (name text : List ℕ) (made other : Report) → IsRefusal name text made → IsRefusal name text other → made ≡ other
+  one_refusal name text made other a b =
+      let same = same_fault text a.code b.code a.at b.at a.fault b.fault in
+      let position = one_position text a.at b.at a.line a.column b.line b.column same.1 a.position b.position in
+      one_refused made other (refusal_at name a.line a.column a.code) (refusal_at name b.line b.column b.code) a.verdict_is b.verdict_is
+      (λ i. refusal_at name (position.0 i) (position.1 i) (same.0 i)) a.counted b.counted a.waived b.waived
+
   pub one_report : (name text : List ℕ) (made other : Report) → IsReport name text made → IsReport name text other → made ≡ other
   one_report name text made other (inl a) (inl b) = analysed name text made other a b
-  one_report name text made other (inl a) (inr b) = absurd (not_both text a.tokens b.tokens a.tree b.at (one_cut text a.tokens b.tokens a.cut b.cut) a.spelled b.refused)
-  one_report name text made other (inr a) (inl b) = absurd (not_both text b.tokens a.tokens b.tree a.at (one_cut text b.tokens a.tokens b.cut a.cut) b.spelled a.refused)
-  one_report name text made other (inr a) (inr b) = one_refusal name text made other a b (one_cut text a.tokens b.tokens a.cut b.cut)
+  one_report name text made other (inl a) (inr b) = absurd (faultless name text made b.code b.at a b.fault)
+  one_report name text made other (inr a) (inl b) = absurd (faultless name text other a.code a.at b a.fault)
+  one_report name text made other (inr a) (inr b) = one_refusal name text made other a b

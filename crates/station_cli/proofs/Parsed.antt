@@ -1,11 +1,12 @@
 -- What the parts of the analysis may rely on of a tree, and where a refusal stands.
 use Rattle.std.proofs.Common.{◌≡◌, ℕ, zero, ◌≤◌, List, [], ◌∷◌, ◌++◌, length, refl, ap, arith}
-use Rattle.std.specs.List.{Contains}
+use Rattle.std.specs.List.{Contains, filter}
 use Rattle.token_grammar.specs.declared.token.Token.{Token}
 use Rattle.token_grammar.specs.Texts.{Lexeme, lexeme, lexemes}
-use Rattle.st_lexer.specs.Placed.{IsIn, IsShort}
-use Rattle.st_expr.specs.FirstForm.{IsTree, IsRefused, place_at}
+use Rattle.st_lexer.specs.Placed.{IsIn}
+use Rattle.st_expr.specs.FirstForm.{IsTree, IsRefused, is_kept, place_at}
 use Rattle.st_expr.specs.Laws.{AreIn, SoundTree}
+use Rattle.st_expr.proofs.Spelled.{kept_among}
 use Rattle.st_tree.specs.declared.tree.SourceTree.{SourceTree}
 use Rattle.station_cli.specs.Parsing.{IsAnalysable}
 use Rattle.cycle_analysis.proofs.Lists.{later_in}
@@ -13,10 +14,9 @@ use Rattle.cycle_analysis.proofs.Lists.{later_in}
 are_in : (text : List ℕ) (tokens : List Token) → ((t : Token) → Contains tokens t → IsIn text t) → AreIn text tokens
 are_in text tokens h t there = let i = h t there in (omega (arith, i.some), i.within)
 
-pub analysable : SoundTree → (text : List ℕ) (tokens : List Token) (tree : SourceTree) → ((t : Token) → Contains tokens t → IsIn text t) → ((t : Token) → Contains tokens t → IsShort text t)
-    → length text ≤ 1048576 → IsTree text tokens tree → IsAnalysable text tree
-analysable law text tokens tree within short limit is =
-    let s = law text tokens tree is (are_in text tokens within) short in
+pub analysable : SoundTree → (text : List ℕ) (tokens : List Token) (tree : SourceTree) → ((t : Token) → Contains tokens t → IsIn text t) → length text ≤ 1048576 → IsTree text tokens tree → IsAnalysable text tree
+analysable law text tokens tree within limit is =
+    let s = law text tokens tree is (are_in text tokens within) in
     record { unit = is.unit; units = is.units; uses = s.0; numbered = is.numbered; feeds = is.feeds; within = s.1; short = limit }
 
 -- a lexeme that is left is one of the text's
@@ -38,4 +38,6 @@ left_within text tokens front (l ∷ rest) h e =
     omega (arith, i.some, i.within, same)
 
 pub refused_within : (text : List ℕ) (tokens : List Token) (at : ℕ) → ((t : Token) → Contains tokens t → IsIn text t) → IsRefused text tokens at → at ≤ length text
-refused_within text tokens at within r = let le = left_within text tokens r.longest.front r.rest within r.longest.tokens in omega (arith, le, r.place)
+refused_within text tokens at within r =
+    let le = left_within text (filter is_kept tokens) r.longest.front r.rest (λ t among. within t (kept_among tokens t among)) r.longest.tokens in
+    omega (arith, le, r.place)

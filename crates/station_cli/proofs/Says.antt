@@ -28,7 +28,7 @@ use Rattle.finding_spans.specs.declared.report.Verdict.TheVariants as verdict
 use Rattle.report_text.specs.Text.{verdict_line, alarm_line, range_line, end_line, text_of}
 use Rattle.finding_spans.specs.declared.report.Refusal.{Refusal}
 use Rattle.station_cli.specs.Words.{Command, check, command_of}
-use Rattle.station_cli.specs.Report.{IsReport, IsAnalysed}
+use Rattle.station_cli.specs.Report.{IsReport, IsAnalysed, IsFaultAt}
 use Rattle.station_cli.specs.Reports.{Fits}
 use Rattle.station_cli.specs.Run.{World, Course, misused, checked, too_long, unread, out_of_memory, Happens, max_file, IsWork, IsWritten}
 use Rattle.station_cli.specs.Run.{verdict_status}
@@ -37,7 +37,8 @@ use Rattle.station_cli.specs.Run as runs
 use Rattle.station_cli.specs.Headline.{IsProgram, IsForetold, IsFaultless, IsOfReport, IsSafe, FreeIsSafe, NeverWaits, IsCovered, AlarmsCover, IsReportedSafe, IsReportedCovered, ReportsHold, FreeHolds}
 use Rattle.station_cli.specs.declared.status.Status.{Status}
 use Rattle.station_cli.specs.declared.status.Status.TheVariants.{Clean, Open}
-use Rattle.station_cli.proofs.OneReport.{OneCut}
+use Rattle.iec_tables.specs.declared.fault.FaultCode.{FaultCode}
+use Rattle.st_lexer.specs.Laws.{OneCut, NotBoth}
 use Rattle.station_cli.proofs.Runs.{foretold}
 
 -- ---- what was put
@@ -189,12 +190,15 @@ module _ (law : Theorem) (steady : Theorem_steady) (one_cut : OneCut) (one_tree 
 -- ---- what the definitions say alone
 
 -- a text that spells a program is not refused
-module _ (law : Theorem) (steady : Theorem_steady) (one_cut : OneCut) (one_tree : OneTree) where
+module _ (law : Theorem) (steady : Theorem_steady) (one_cut : OneCut) (not_both : NotBoth) (one_tree : OneTree) where
+  unrefused : (text : List ℕ) (component : Component) (code : FaultCode) (at : ℕ) → IsProgram text component → IsFaultAt text code at → ⊥
+  unrefused text component code at p (inl fault) = not_both text p.tokens code at p.cut fault
+  unrefused text component code at p (inr (is, tokens, cut, refused)) =
+      refused.unspelled p.tree (subst (λ (ts : List Token). IsTree text ts p.tree) (one_cut text p.tokens tokens p.cut cut) p.spelled)
+
   analysed_program : (name text : List ℕ) (made : Report) (component : Component) → IsProgram text component → IsReport name text made → IsAnalysed name text made
   analysed_program name text made component p (inl a) = a
-  analysed_program name text made component p (inr r) =
-      let tokens : p.tokens ≡ r.tokens = one_cut text p.tokens r.tokens p.cut r.cut in
-      absurd (r.refused.unspelled p.tree (subst (λ (ts : List Token). IsTree text ts p.tree) tokens p.spelled))
+  analysed_program name text made component p (inr r) = absurd (unrefused text component r.code r.at p r.fault)
 
   pub reports_hold : ReportsHold
   reports_hold name text made h component p moves = foretold_of law one_cut one_tree name text made (analysed_program name text made component p h) component p moves

@@ -6,6 +6,7 @@ use Rattle.iec_tables.specs.Kinds as kinds
 use Rattle.interval_domain.specs.Interval.{Interval, Span, IsWithin}
 use Rattle.interval_domain.specs.Grid.{IsGrid}
 use Rattle.st_tree.specs.declared.node.Site.{Site}
+use Rattle.iec_tables.specs.declared.fault.FaultCode.{FaultCode}
 use Rattle.iec_tables.specs.declared.fault.FaultCode.TheVariants.{NotBuilt}
 use Rattle.st_tree.specs.declared.tree.Stmt.{Stmt}
 use Rattle.st_tree.specs.declared.tree.Stmt.TheVariants.{Assign}
@@ -15,7 +16,7 @@ use Rattle.st_tree.specs.declared.code.TaskCode.{TaskCode}
 use Rattle.st_tree.specs.declared.code.Component.{Component}
 use Rattle.st_tree.specs.Nodes.{stmt_nodes}
 use Rattle.token_grammar.specs.declared.token.Token.{Token}
-use Rattle.st_lexer.specs.Cut.{IsCut}
+use Rattle.st_lexer.specs.Cut.{IsCut, IsFault}
 use Rattle.st_expr.specs.FirstForm.{IsTree, IsRefused}
 use Rattle.task_config.specs.Plan.{IsComponent}
 use Rattle.cycle_analysis.specs.Pass.{Entry as Told, Alarm as Alarmed}
@@ -113,16 +114,19 @@ pub record IsAnalysed (name text : List ℕ) (made : Report) : Type 0 where
   pub spelled : IsTree text tokens tree
   pub report : IsReportOf name text tree made
 
+-- The first fault of a text, with its place in bytes: that for which it isn't cut into tokens, or that its tokens spell no tree.
+abbrev pub IsFaultAt : List ℕ → FaultCode → ℕ → Type 0
+IsFaultAt text code at = IsFault text code at ⊎ ((code ≡ NotBuilt) × (tokens : List Token) × IsCut text tokens × IsRefused text tokens at)
+
 -- The report on a text that is refused.
 pub record IsRefusal (name text : List ℕ) (report : Report) : Type 0 where
-  pub tokens : List Token
+  pub code : FaultCode
   pub at : ℕ
   pub line : ℕ
   pub column : ℕ
-  pub cut : IsCut text tokens
-  pub refused : IsRefused text tokens at
+  pub fault : IsFaultAt text code at
   pub position : IsPosition text at line column
-  pub verdict_is : report.verdict ≡ verdict.Refused (record { file = name; line = line; column = column; code = NotBuilt })
+  pub verdict_is : report.verdict ≡ verdict.Refused (record { file = name; line = line; column = column; code = code })
   pub counted : IsCounted report
   pub waived : report.waived_count ≡ 0
 

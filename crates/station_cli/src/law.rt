@@ -7,7 +7,7 @@ ghost use Rattle.station_cli.specs.OneReport.{OneReport, OneCourse};
 pub fn one_report()
     ensures { OneReport }
 {
-    st_lexer::one_cut();
+    st_lexer::cut_laws();
     st_expr::tree_laws();
 }
 
@@ -17,7 +17,7 @@ pub fn reports_hold()
     ensures all { ReportsHold }
     ensures free { FreeHolds }
 {
-    st_lexer::one_cut();
+    st_lexer::cut_laws();
     st_expr::tree_laws();
     cycle_analysis::headline();
 }

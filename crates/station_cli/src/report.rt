@@ -5,13 +5,9 @@ ghost use Rattle.std.specs.List.{AllByRecursion, Contains};
 ghost use Rattle.st_tree.specs.Nodes.{IsNumbered};
 ghost use Rattle.st_tree.specs.declared.tree.Unit.{Unit as SourceUnit};
 ghost use Rattle.finding_spans.specs.declared.report.Refusal.{Refusal as Reason};
-ghost use Rattle.token_grammar.specs.declared.token.Token.{Token as Lexeme};
-ghost use Rattle.st_lexer.specs.Cut.{IsCut};
-ghost use Rattle.st_expr.specs.FirstForm.{IsRefused};
-ghost use Rattle.iec_tables.specs.declared.fault.FaultCode.TheVariants as faults;
 ghost use Rattle.station_cli.specs.Reports.{IsCounted};
-ghost use Rattle.station_cli.specs.Report.{IsReport, IsRefusal, IsReportOf, IsUnder, subject};
-ghost use Rattle.station_cli.specs.Parsing.{IsAnalysable, IsParsedText};
+ghost use Rattle.station_cli.specs.Report.{IsReport, IsRefusal, IsReportOf, IsFaultAt, IsUnder, subject};
+ghost use Rattle.station_cli.specs.Parsing.{IsAnalysable, IsParsed};
 ghost use Rattle.station_cli.specs.Lines.{AreEntriesOf, IsAlarmOf, IsEntryOf, IsInBody, lines_of, range_line};
 
 use cycle_analysis::{Solution, solve};
@@ -22,7 +18,7 @@ use interval_domain::grid::Grid;
 use interval_domain::interval::Interval;
 use sqlite_items::Items;
 use st_expr::{ParseFault, first_form, tree_laws};
-use st_lexer::{LexFault, tokens};
+use st_lexer::{LexFault, cut_laws, tokens};
 use iec_tables::fault::FaultCode;
 use st_tree::{CellInfo, Component, Hit, NodeNo, SourceTree, Stmt};
 use station_ports::outside::NoMemory;
@@ -67,14 +63,16 @@ fn tree_of<L: Ledger>(
     text: &FileText,
     steps: &mut Steps<L>,
 ) -> Result<Parsed, NoMemory>
-    ensures { IfOk result (IsParsedText text.now) }
+    ensures { IfOk result (IsParsed text.now) }
 {
+    cut_laws();
     tree_laws();
     let tokens = match tokens(alloc, text.bytes()) {
         Ok(tokens) => tokens,
+        Err(LexFault::At { code, at }) => return Ok(Parsed::Fault(Fault { code, at })),
         Err(LexFault::NoMemory) => return Err(NoMemory),
     };
-    match first_form(alloc, &tokens, steps) {
+    match first_form(alloc, tokens, steps) {
         Ok(tree) => Ok(Parsed::Tree(tree)),
         Err(ParseFault::At { code, at }) => Ok(Parsed::Fault(Fault { code, at })),
         Err(ParseFault::NoMemory) => Err(NoMemory),
@@ -83,8 +81,7 @@ fn tree_of<L: Ledger>(
 
 /// The report on a file that is refused for a fault at a byte.
 fn refused(alloc: Global, name: &str, text: &FileText, fault: Fault) -> Result<Report, AllocError>
-    ensures { (tokens : List Lexeme) → IsCut text.now tokens → fault.code ≡ faults.NotBuilt → fault.at ≤ length text.now → IsRefused text.now tokens fault.at →
-        IfOk result (λ report. IsRefusal name.now text.now report) }
+    ensures { IsFaultAt text.now fault.code fault.at → fault.at ≤ length text.now → IfOk result (λ report. IsRefusal name.now text.now report) }
 {
     let bytes = text.bytes();
     let position = line_of(bytes, fault.at.min(bytes.len()));

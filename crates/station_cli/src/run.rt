@@ -15,7 +15,7 @@ use cycle_analysis::headline;
 use finding_spans::Verdict;
 use report_text::text;
 use st_expr::tree_laws;
-use st_lexer::one_cut;
+use st_lexer::cut_laws;
 use station_ports::outside::{FileRefusal, Files, NoMemory, Port, PutRefusal, Sink};
 use station_ports::steps::Steps;
 use station_ports::sure::{SureFiles, SureSink};
@@ -66,7 +66,7 @@ pub fn run<F: Files, S: Sink, L: Ledger>(
     ensures read_fault { result ≡ Status.ReadFault → Rose (F.view files.old).faults (F.view files.new).faults }
     ensures write_fault { result ≡ Status.WriteFault → Rose (S.view out.old).faults (S.view out.new).faults }
 {
-    one_cut();
+    cut_laws();
     tree_laws();
     headline();
     one_report();

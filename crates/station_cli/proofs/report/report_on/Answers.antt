@@ -5,18 +5,18 @@ use Rattle.st_tree.specs.declared.tree.SourceTree.{SourceTree}
 use Rattle.finding_spans.specs.declared.report.Report.{Report}
 use Rattle.station_cli.specs.declared.report.Parsed.TheVariants.{Tree}
 use Rattle.station_cli.specs.Report.{IsReport, IsReportOf}
-use Rattle.station_cli.specs.Parsing.{IsAnalysable, IsParsedText}
+use Rattle.station_cli.specs.Parsing.{IsAnalysable, IsParsed}
 use Rattle.station_cli.proofs.report.report_on.Goals as goal
 
 -- the report on a tree of the text is the report on the text
-on_tree : (name text : List ℕ) (tree : SourceTree) (r : Result Report NoMemory) → IsParsedText text (Tree tree) → IfOk r (λ report. (t : List ℕ) → IsAnalysable t tree → IsReportOf name t tree report) → IfOk r (λ report. IsReport name text report)
-on_tree name text tree (Ok report) h k = inl (record { tokens = h.0; tree = tree; cut = h.1; spelled = h.2.0; report = k text h.2.1 })
+on_tree : (name text : List ℕ) (tree : SourceTree) (r : Result Report NoMemory) → IsParsed text (Tree tree) → IfOk r (λ report. (t : List ℕ) → IsAnalysable t tree → IsReportOf name t tree report) → IfOk r (λ report. IsReport name text report)
+on_tree name text tree (Ok report) h k = inl (record { tokens = h.0; tree = tree; cut = h.1; spelled = h.2; report = k text h.3 })
 on_tree name text tree (Err e) h k = tt
 
 pub analysed-requires : goal.analysed-requires
 analysed-requires g c =
-    let h = subst (IsParsedText c.args.text.now) c.in-Tree.is c.in_ok-tree.ensures in
-    ap length h.2.1.units
+    let h = subst (IsParsed c.args.text.now) c.in-Tree.is c.in_ok-tree.ensures in
+    ap length h.3.units
 
 pub returns-in-Tree : goal.returns-in-Tree
-returns-in-Tree g c = on_tree c.args.name.now c.args.text.now c.in-Tree.tree c.analysed.result (subst (IsParsedText c.args.text.now) c.in-Tree.is c.in_ok-tree.ensures) c.analysed.ensures
+returns-in-Tree g c = on_tree c.args.name.now c.args.text.now c.in-Tree.tree c.analysed.result (subst (IsParsed c.args.text.now) c.in-Tree.is c.in_ok-tree.ensures) c.analysed.ensures
