@@ -1,6 +1,9 @@
 // Intervals of whole numbers, the operators on them, and the grid to whose numbers bounds are rounded.
 #![tactic(auto)]
 
+pub mod arithmetic;
+pub mod comparison;
 pub mod grid;
 pub mod interval;
 pub mod operators;
+pub mod selection;
