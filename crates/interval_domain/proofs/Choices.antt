@@ -1,5 +1,5 @@
 -- The laws of MIN, MAX, LIMIT, SEL and conversions.
-use Rattle.std.proofs.Common.{◌≡◌, ◌⊎◌, inl, inr, Bool, true, false, not, ◌||◌, if◌then◌else◌, ℤ, pos, ◌≤ℤ◌, ◌<ℤ◌, int_le, ◌&&◌, arith, subst, sym, refl, ap, ◌∙◌}
+use Rattle.std.proofs.Common.{◌≡◌, inl, inr, Bool, true, false, not, ◌||◌, ℤ, pos, ◌≤ℤ◌, int_le, arith, subst, sym, refl, ap, ◌∙◌}
 use Rattle.std.specs.Int.{int_max, int_min}
 use Rattle.std.specs.Ordering.{int_eq}
 use Rattle.std.proofs.lemmas.Int.{ints, clamps}
@@ -11,7 +11,7 @@ use Rattle.interval_domain.specs.Operators.{range_of, typed}
 use Rattle.interval_domain.specs.Selection.{least_of, greatest_of, limited, chosen, min_row, max_row, limit_row, sel_row, given, HoldsAll, MeetsPlainLaws, MeetsTernaryLaws, MeetsConversionLaws}
 use Rattle.interval_domain.specs.Stored.{span-ordered}
 use Rattle.interval_domain.proofs.Laws.{meet-holds, meet-within}
-use Rattle.interval_domain.proofs.Between.{hull-left, hull-right, hull-within}
+use Rattle.interval_domain.proofs.Between.{hull-left, hull-right}
 
 pub min-spans : (a b c d : ℤ) → a ≤ℤ b → c ≤ℤ d → span (int_min a c) (int_min b d) ≡ min_row (Span a b) (Span c d)
 min-spans a b c d h k = span-ordered (int_min a c) (int_min b d) (omega (arith, ints, clamps))

@@ -10,3 +10,4 @@ pub mod Rounding
 pub mod Searching
 pub mod Sets
 pub mod Signs
+pub mod Tests

@@ -1,10 +1,10 @@
 -- Products of numbers between others, and the laws of `*`.
-use Rattle.std.proofs.Common.{◌≡◌, ◌⊎◌, inl, inr, ℕ, suc, ◌*◌, ◌≤◌, ℤ, pos, negsuc, ◌≤ℤ◌, ◌*ℤ◌, arith, subst, sym}
+use Rattle.std.proofs.Common.{◌≡◌, inl, inr, ℕ, suc, ◌*◌, ◌≤◌, ℤ, pos, negsuc, ◌≤ℤ◌, ◌*ℤ◌, arith, subst, sym}
 use Rattle.std.proofs.Math.Nat.{mul-le-mul_left}
 use Rattle.std.proofs.Math.IntN.{*ℤ_comm}
 use Rattle.std.proofs.lemmas.Int.{ints}
 use Rattle.iec_tables.specs.declared.elem.Elem.{Elem}
-use Rattle.interval_domain.specs.Interval.{Interval, Empty, Span, Holds, IsWithin, IsOrdered}
+use Rattle.interval_domain.specs.Interval.{Interval, Empty, Span, IsOrdered}
 use Rattle.interval_domain.specs.Operators.{kept, typed, HoldsResults, IsLeast, GrowsWith, MeetsLaws}
 use Rattle.interval_domain.specs.Arithmetic.{product_of, hull_of, mul_raw}
 use Rattle.interval_domain.proofs.Laws.{laws-at}

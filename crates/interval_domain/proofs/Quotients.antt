@@ -1,15 +1,15 @@
 -- Quotients of numbers between others, and the laws of `/`.
-use Rattle.std.proofs.Common.{◌≡◌, ◌⊎◌, inl, inr, refl, ℕ, zero, suc, ◌*◌, ◌/◌, ◌≤◌, ◌<◌, ℤ, pos, negsuc, ◌≤ℤ◌, ◌<ℤ◌, neg_ℤ, int_div, arith, subst, sym}
+use Rattle.std.proofs.Common.{◌≡◌, ◌⊎◌, inl, inr, refl, ℕ, zero, suc, ◌/◌, ◌≤◌, ◌<◌, ℤ, pos, negsuc, ◌≤ℤ◌, ◌<ℤ◌, int_div, arith, subst, sym}
 use Rattle.std.specs.Int.{int_max, int_min}
 use Rattle.std.proofs.Math.Nat.{mul-le-mul_left, div-mul-le_self}
 use Rattle.std.proofs.lemmas.Nat.{le-div}
 use Rattle.std.proofs.lemmas.Int.{ints, clamps, by_lt_z}
 use Rattle.iec_tables.specs.declared.elem.Elem.{Elem}
-use Rattle.interval_domain.specs.Interval.{Interval, Empty, Span, Holds, IsWithin, IsOrdered, span, hull}
+use Rattle.interval_domain.specs.Interval.{Interval, Empty, Span, Holds, IsWithin, IsOrdered, span}
 use Rattle.interval_domain.specs.Operators.{kept, range_of, typed, GrowsWith}
 use Rattle.interval_domain.specs.Arithmetic.{quotient_of, hull_of, quotients, below_zero, above_zero, div_raw, IsDivisor, HoldsQuotients, MeetsDivisionLaws}
 use Rattle.interval_domain.specs.Stored.{span-ordered, span-reversed}
-use Rattle.interval_domain.proofs.Laws.{meet-holds, meet-within, kept-typed, span-holds}
+use Rattle.interval_domain.proofs.Laws.{meet-holds, meet-within, kept-typed}
 use Rattle.interval_domain.proofs.Between.{IsBetween, between-kept, between-held, hull_of-within, hull-within, hull-left, hull-right, holds-within, ordered-low, ordered-high}
 
 -- ---- natural numbers

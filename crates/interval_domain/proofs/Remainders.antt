@@ -1,6 +1,5 @@
 -- Remainders of numbers between others, and the laws of MOD.
-use Rattle.std.proofs.Common.{◌≡◌, ◌⊎◌, inl, inr, refl, ap, ◌∙◌, ℕ, zero, suc, max, ◌%◌, ◌-◌, ◌≤◌, ◌<◌, nat_eq, if◌then◌else◌, Bool, true, false, ℤ, pos, negsuc, ◌≤ℤ◌, ◌<ℤ◌, ◌+ℤ◌, ◌-ℤ◌, ◌*ℤ◌, neg_ℤ, int_lt, int_div, unsigned_abs, arith, subst, sym}
-use Rattle.std.specs.Int.{int_max, int_min}
+use Rattle.std.proofs.Common.{◌≡◌, refl, ℕ, zero, suc, max, ◌%◌, ◌≤◌, ◌<◌, nat_eq, true, false, ℤ, pos, negsuc, ◌≤ℤ◌, ◌<ℤ◌, ◌+ℤ◌, ◌-ℤ◌, ◌*ℤ◌, int_lt, int_div, unsigned_abs, arith, subst, sym}
 use Rattle.std.specs.Int.RustNames.{int_rem}
 use Rattle.std.proofs.Math.Nat.{mod-lt, mod-le}
 use Rattle.std.proofs.lemmas.Bool.Decides.{nat_tests}

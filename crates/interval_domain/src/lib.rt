@@ -6,4 +6,5 @@ pub mod comparison;
 pub mod grid;
 pub mod interval;
 pub mod operators;
+pub mod relation;
 pub mod selection;
