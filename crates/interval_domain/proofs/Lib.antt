@@ -3,6 +3,7 @@ pub mod Bounds
 pub mod Choices
 pub mod Laws
 pub mod OneGrid
+pub mod Patterns
 pub mod Products
 pub mod Quotients
 pub mod Remainders

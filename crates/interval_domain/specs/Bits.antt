@@ -5,7 +5,7 @@ use Rattle.std.specs.Int.{int_max, int_min}
 use Rattle.std.specs.Ordering.{int_eq}
 use Rattle.iec_tables.specs.declared.elem.Elem.{Elem}
 use Rattle.iec_tables.specs.declared.elem.Elem.TheVariants.{Sint, Int, Dint, Lint, Usint, Uint, Udint, Ulint, Bool, Byte, Word, Dword, Lword, Time}
-use Rattle.interval_domain.specs.Interval.{Interval, Empty, Span, Holds, IsWithin}
+use Rattle.interval_domain.specs.Interval.{Interval, Empty, Span, Holds, IsWithin, span}
 use Rattle.interval_domain.specs.Selection.{HoldsAll}
 
 -- how many bits a type has
@@ -32,6 +32,10 @@ all_ones t = pos (2 ^ width_of t - 1)
 -- the patterns of that many bits; the range of a bit string
 abbrev pub bits_range : Elem → Interval
 bits_range t = Span (pos 0) (all_ones t)
+
+-- the patterns of the widest type
+abbrev pub words : Interval
+words = Span (pos 0) (pos (2 ^ 64 - 1))
 
 -- ---- on numbers, bit by bit
 
@@ -66,21 +70,25 @@ ones_above z = pos (2 ^ digits 128 (unsigned_abs z) - 1)
 abbrev pub and_row : Interval → Interval → Interval
 and_row Empty j = Empty
 and_row (Span a b) Empty = Empty
-and_row (Span a b) (Span c d) = exact_or a b c d (and_of a c) (Span (pos 0) (int_min b d))
+and_row (Span a b) (Span c d) = exact_or a b c d (and_of a c) (span (pos 0) (int_min b d))
 
 abbrev pub or_row : Interval → Interval → Interval
 or_row Empty j = Empty
 or_row (Span a b) Empty = Empty
-or_row (Span a b) (Span c d) = exact_or a b c d (or_of a c) (Span (int_max a c) (ones_above (int_max b d)))
+or_row (Span a b) (Span c d) = exact_or a b c d (or_of a c) (span (int_max a c) (ones_above (int_max b d)))
 
 abbrev pub xor_row : Interval → Interval → Interval
 xor_row Empty j = Empty
 xor_row (Span a b) Empty = Empty
-xor_row (Span a b) (Span c d) = exact_or a b c d (xor_of a c) (Span (pos 0) (ones_above (int_max b d)))
+xor_row (Span a b) (Span c d) = exact_or a b c d (xor_of a c) (span (pos 0) (ones_above (int_max b d)))
+
+-- each number taken from the greatest
+abbrev pub mirrored : (greatest : ℤ) → Interval → Interval
+mirrored greatest Empty = Empty
+mirrored greatest (Span a b) = Span (greatest -ℤ b) (greatest -ℤ a)
 
 abbrev pub not_row : Elem → Interval → Interval
-not_row t Empty = Empty
-not_row t (Span a b) = Span (not_of t b) (not_of t a)
+not_row t i = mirrored (all_ones t) i
 
 -- ---- laws
 

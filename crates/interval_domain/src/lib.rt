@@ -2,6 +2,7 @@
 #![tactic(auto)]
 
 pub mod arithmetic;
+pub mod bits;
 pub mod comparison;
 pub mod grid;
 pub mod interval;
