@@ -12,3 +12,4 @@ pub mod Searching
 pub mod Sets
 pub mod Signs
 pub mod Tests
+pub mod Turning

@@ -200,7 +200,7 @@ size-is : (z : ℤ) → pos 0 ≤ℤ z → pos (unsigned_abs z) ≡ z
 size-is (pos n) h = refl
 size-is (negsuc n) h = absurd (omega (arith, ints))
 
-size-up : (x z : ℤ) → pos 0 ≤ℤ x → x ≤ℤ z → unsigned_abs x ≤ unsigned_abs z
+pub size-up : (x z : ℤ) → pos 0 ≤ℤ x → x ≤ℤ z → unsigned_abs x ≤ unsigned_abs z
 size-up (pos x) (pos z) h k = omega (arith, ints)
 size-up (pos x) (negsuc z) h k = absurd (omega (arith, ints))
 size-up (negsuc x) z h k = absurd (omega (arith, ints))

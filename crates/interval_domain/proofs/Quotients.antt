@@ -14,10 +14,10 @@ use Rattle.interval_domain.proofs.Between.{IsBetween, between-kept, between-held
 
 -- ---- natural numbers
 
-div-up : (a b m : ℕ) → 0 < m → a ≤ b → a / m ≤ b / m
+pub div-up : (a b m : ℕ) → 0 < m → a ≤ b → a / m ≤ b / m
 div-up a b m p h = le-div (a / m) b m p (omega (arith, div-mul-le_self a m))
 
-div-down : (a p q : ℕ) → 0 < p → p ≤ q → a / q ≤ a / p
+pub div-down : (a p q : ℕ) → 0 < p → p ≤ q → a / q ≤ a / p
 div-down a p q h k = le-div (a / q) a p h (omega (arith, mul-le-mul_left (a / q) k, div-mul-le_self a q))
 
 -- ---- by one divisor

@@ -29,13 +29,17 @@ width_of Time = 64
 abbrev pub all_ones : Elem → ℤ
 all_ones t = pos (2 ^ width_of t - 1)
 
--- the patterns of that many bits; the range of a bit string
+-- the patterns of that many bits
+abbrev pub patterns : ℕ → Interval
+patterns width = Span (pos 0) (pos (2 ^ width - 1))
+
+-- the patterns of a type: the range of a bit string
 abbrev pub bits_range : Elem → Interval
-bits_range t = Span (pos 0) (all_ones t)
+bits_range t = patterns (width_of t)
 
 -- the patterns of the widest type
 abbrev pub words : Interval
-words = Span (pos 0) (pos (2 ^ 64 - 1))
+words = patterns 64
 
 -- ---- on numbers, bit by bit
 

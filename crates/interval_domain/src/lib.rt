@@ -9,3 +9,4 @@ pub mod interval;
 pub mod operators;
 pub mod relation;
 pub mod selection;
+pub mod shifts;
