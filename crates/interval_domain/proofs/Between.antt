@@ -1,11 +1,11 @@
 -- Numbers between two others, and intervals that hold them.
 use Rattle.std.proofs.Common.{◌≡◌, ◌⊎◌, inl, inr, ℤ, ◌≤ℤ◌, arith, subst, sym}
 use Rattle.std.specs.Int.{int_max, int_min}
-use Rattle.std.proofs.lemmas.Int.{ints, clamps}
-use Rattle.interval_domain.specs.Interval.{Interval, Empty, Span, Holds, IsWithin, IsOrdered, span, hull}
+use Rattle.std.proofs.lemmas.Int.{ints, clamps, by_lt_z}
+use Rattle.interval_domain.specs.Interval.{Interval, Empty, Span, Holds, IsWithin, IsOrdered, span, hull, meet}
 use Rattle.interval_domain.specs.Operators.{kept}
 use Rattle.interval_domain.specs.Arithmetic.{hull_of}
-use Rattle.interval_domain.specs.Stored.{span-ordered}
+use Rattle.interval_domain.specs.Stored.{span-ordered, span-reversed}
 use Rattle.interval_domain.proofs.Bounds.{kept-le}
 
 -- z lies between p and q, in either order
@@ -91,3 +91,16 @@ hull_of-spans p q r s =
   where
     through : (a b c : ℤ) → a ≤ℤ b → b ≤ℤ c → a ≤ℤ c
     through a b c h k = omega (arith, ints)
+
+-- a span within an interval, which may be out of order
+pub span-in : (a b c d : ℤ) → c ≤ℤ a → b ≤ℤ d → IsWithin (span a b) (Span c d)
+span-in a b c d h k =
+    by_lt_z b a
+    (λ below. subst (λ (i : Interval). IsWithin i (Span c d)) (sym (span-reversed a b below)) tt)
+    (λ ordered. subst (λ (i : Interval). IsWithin i (Span c d)) (sym (span-ordered a b ordered)) (h, k))
+
+-- what two intervals have in common lies in the second
+pub meet-right : (i k : Interval) → IsWithin (meet i k) k
+meet-right Empty k = tt
+meet-right (Span a b) Empty = tt
+meet-right (Span a b) (Span c d) = span-in (int_max a c) (int_min b d) c d (omega (arith, ints, clamps)) (omega (arith, ints, clamps))

@@ -11,7 +11,7 @@ use Rattle.interval_domain.specs.Interval.{Interval, Empty, Span, Holds, IsWithi
 use Rattle.interval_domain.specs.Comparison.{test_of, opposite, Occurs, bounds_allow, may_hold, cut_bounds, cut_row, without, MeetsCutLaws}
 use Rattle.interval_domain.specs.Stored.{span-ordered, span-reversed}
 use Rattle.interval_domain.proofs.Laws.{span-holds, span-within}
-use Rattle.interval_domain.proofs.Between.{holds-within, ordered-low, ordered-high}
+use Rattle.interval_domain.proofs.Between.{holds-within, ordered-low, ordered-high, span-in}
 
 -- ---- tests
 
@@ -213,13 +213,6 @@ held-cut : (op : Compare) (i j : Interval) (x y : ℤ) → Holds i x → Holds j
 held-cut op Empty j x y h k t = absurd h
 held-cut op (Span a b) Empty x y h k t = absurd k
 held-cut op (Span a b) (Span c d) x y h k t = held-cut-bounds op a b c d x y h.0 h.1 k.0 k.1 t
-
--- a span within an interval, which may be out of order
-span-in : (a b c d : ℤ) → c ≤ℤ a → b ≤ℤ d → IsWithin (span a b) (Span c d)
-span-in a b c d h k =
-    by_lt_z b a
-    (λ below. subst (λ (i : Interval). IsWithin i (Span c d)) (sym (span-reversed a b below)) tt)
-    (λ ordered. subst (λ (i : Interval). IsWithin i (Span c d)) (sym (span-ordered a b ordered)) (h, k))
 
 low-up : (a number : ℤ) → a ≤ℤ (if int_eq a number then a +ℤ pos 1 else a)
 low-up a number = elim (cases_Bool (int_eq a number)) [ inl e ↦ rw e (omega (arith, ints)) | inr e ↦ rw e (omega (arith, ints)) ]

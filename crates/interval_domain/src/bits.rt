@@ -51,6 +51,13 @@ pub fn not(t: Elem, a: Interval) -> Out
     plain(not_bounds(all_ones(t), a))
 }
 
+/// The patterns of a type as numbers; for a bit string, its range.
+pub fn patterns_of(t: Elem) -> Interval
+    ensures { result ≡ rows.bits_range t }
+{
+    Interval::of(0, all_ones(t))
+}
+
 /// The number whose bits are all 1.
 pub fn all_ones(t: Elem) -> i128
     ensures { result ≡ rows.all_ones t }
