@@ -7,9 +7,8 @@ use Rattle.std.proofs.lemmas.Bool.{cases_Bool, or_cases}
 use Rattle.std.proofs.lemmas.Bool.Decides.{Decides-int_eq}
 use Rattle.interval_domain.specs.declared.relation.Compare.{Compare}
 use Rattle.interval_domain.specs.declared.relation.Compare.TheVariants.{Less, LessEqual, Greater, GreaterEqual, Equal, NotEqual}
-use Rattle.interval_domain.specs.Interval.{Interval, Empty, Span, Holds, IsWithin, IsOrdered, span}
+use Rattle.interval_domain.specs.Interval.{Interval, Empty, Span, Holds, IsWithin, IsOrdered}
 use Rattle.interval_domain.specs.Comparison.{test_of, opposite, Occurs, bounds_allow, may_hold, cut_bounds, cut_row, without, MeetsCutLaws}
-use Rattle.interval_domain.specs.Stored.{span-ordered, span-reversed}
 use Rattle.interval_domain.proofs.Laws.{span-holds, span-within}
 use Rattle.interval_domain.proofs.Between.{holds-within, ordered-low, ordered-high, span-in}
 

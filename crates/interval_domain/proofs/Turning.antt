@@ -1,11 +1,11 @@
 -- Patterns that are shifted and turned, and the laws of SHL, SHR, ROL and ROR.
-use Rattle.std.proofs.Common.{◌≡◌, ◌⊎◌, inl, inr, refl, ap, ◌∙◌, ℕ, zero, suc, min, ◌+◌, ◌*◌, ◌/◌, ◌%◌, ◌-◌, ◌^◌, ◌≤◌, ◌<◌, ℤ, pos, negsuc, ◌≤ℤ◌, unsigned_abs, arith, subst, sym}
+use Rattle.std.proofs.Common.{◌≡◌, ap, ◌∙◌, ℕ, ◌+◌, ◌*◌, ◌/◌, ◌%◌, ◌-◌, ◌^◌, ◌≤◌, ◌<◌, ℤ, pos, negsuc, ◌≤ℤ◌, unsigned_abs, arith, subst, sym}
 use Rattle.std.proofs.Math.Nat.{pow-le-pow_right}
 use Rattle.std.proofs.lemmas.Nat.{mul-add-lt, mod_below, pow_pos, pow-add, shr_below}
 use Rattle.std.proofs.lemmas.Int.{ints}
-use Rattle.interval_domain.specs.Interval.{Interval, Empty, Span, Holds, IsWithin, IsOrdered, span}
+use Rattle.interval_domain.specs.Interval.{Interval, Empty, Span, Holds, IsWithin, IsOrdered}
 use Rattle.interval_domain.specs.Selection.{HoldsAll}
-use Rattle.interval_domain.specs.Bits.{patterns, exact_or}
+use Rattle.interval_domain.specs.Bits.{patterns}
 use Rattle.interval_domain.specs.Shifts.{moved, turns, turned, shl_of, shr_of, rol_of, ror_of, shl_row, shr_row, rol_row, ror_row, moved_row, MeetsShiftLaws}
 use Rattle.interval_domain.proofs.Laws.{span-holds, span-within}
 use Rattle.interval_domain.proofs.Between.{holds-within}

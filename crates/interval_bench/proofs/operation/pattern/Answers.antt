@@ -1,4 +1,4 @@
-use Rattle.std.proofs.Common.{◌≡◌, ◌∙◌, ap, subst, sym}
+use Rattle.std.proofs.Common.{◌∙◌, ap, subst, sym}
 use Rattle.interval_domain.specs.Interval.{Interval, IsWithin, meet}
 use Rattle.interval_domain.specs.Bits.{bits_range}
 use Rattle.interval_domain.proofs.Between.{meet-right}

@@ -1,8 +1,7 @@
-use Rattle.std.proofs.Common.{rules, ◌≡◌, FitsSigned, ap, sym, ◌∙◌, ◌-ℤ◌}
+use Rattle.std.proofs.Common.{rules, ◌≡◌, FitsSigned, sym, ◌∙◌, ◌-ℤ◌}
 use Rattle.std.proofs.lemmas.Int.{to_z-of_z}
 use mir.Syntax.{w128}
 use Rattle.interval_domain.specs.Interval.{Span, span}
-use Rattle.interval_domain.specs.Bits.{mirrored}
 use Rattle.interval_domain.proofs.Patterns.{mirrored-at}
 use Rattle.interval_domain.proofs.bits.not_bounds.Goals as goal
 
