@@ -13,7 +13,7 @@ use Rattle.iec_tables.specs.declared.elem.Elem.{Elem}
 use Rattle.iec_tables.specs.declared.elem.Elem.TheVariants.{Sint, Int, Dint, Lint, Usint, Uint, Udint, Ulint, Bool as Truth, Byte, Word, Dword, Lword, Time}
 use Rattle.interval_domain.specs.Interval.{Interval, Empty, Span, Holds, IsWithin, IsOrdered, span}
 use Rattle.interval_domain.specs.Selection.{HoldsAll}
-use Rattle.interval_domain.specs.Bits.{width_of, all_ones, bits_range, words, and_of, or_of, xor_of, not_of, exact_or, digits, ones_above, and_row, or_row, xor_row, mirrored, not_row, IsLeastOfAll, MeetsBitLaws, MeetsNotLaws}
+use Rattle.interval_domain.specs.Bits.{width_of, all_ones, bits_range, words, and_of, or_of, xor_of, not_of, exact_or, digits, ones_above, IsOnesAbove, and_row, or_row, xor_row, mirrored, not_row, IsLeastOfAll, MeetsBitLaws, MeetsNotLaws}
 use Rattle.interval_domain.specs.Stored.{span-ordered}
 use Rattle.interval_domain.proofs.Laws.{span-holds, span-within}
 use Rattle.interval_domain.proofs.Between.{holds-within}
@@ -143,6 +143,45 @@ xor-fits x y h k = fits-natural _ (xor_lt 127 (unsigned_abs x) (unsigned_abs y) 
 pub mirrored-at : (m : ℤ) (i : Interval) (a b : ℤ) → i ≡ Span a b → a ≤ℤ b → mirrored m i ≡ span (m -ℤ b) (m -ℤ a)
 mirrored-at m i a b e h = ap (mirrored m) e ∙ sym (span-ordered (m -ℤ b) (m -ℤ a) (omega (arith, ints)))
 
+size-is : (z : ℤ) → pos 0 ≤ℤ z → pos (unsigned_abs z) ≡ z
+size-is (pos n) h = refl
+size-is (negsuc n) h = absurd (omega (arith, ints))
+
+at-most : (m k n : ℕ) → 2 ^ m ≤ 2 * n + 1 → n < 2 ^ k → m ≤ k
+at-most m k n h l =
+    elim (cases_lt k m) [
+      | inl more ↦
+          let e : 2 ^ suc k ≡ 2 ^ k * 2 = pow-suc 2 k in
+          let up : 2 ^ suc k ≤ 2 ^ m = pow-le-pow_right {n = 2} (omega arith) more in absurd (omega arith)
+      | inr le ↦ le
+    ]
+
+less-ones : (p q : ℕ) → p ≤ q → pos (p - 1) ≤ℤ pos (q - 1)
+less-ones p q h = omega (arith, ints)
+
+below-power : (n p : ℕ) → 0 < p → pos n ≤ℤ pos (p - 1) → n < p
+below-power n p h k = omega (arith, ints)
+
+power-above : (n p : ℕ) → n < p → pos n ≤ℤ pos (p - 1)
+power-above n p h = omega (arith, ints)
+
+ones-of : (n : ℕ) → n < 2 ^ 128 → IsOnesAbove (pos n) (ones_above (pos n))
+ones-of n h =
+    let bounds = digits-bounds 128 n h in
+    record {
+      ones = (digits 128 n, refl);
+      above = power-above n (2 ^ digits 128 n) bounds.0;
+      least = λ k l. less-ones (2 ^ digits 128 n) (2 ^ k)
+          (pow-le-pow_right {n = 2} (omega arith) (at-most (digits 128 n) k n bounds.1 (below-power n (2 ^ k) (pow_pos k) l)));
+    }
+
+pub ones_above-is : (z r : ℤ) → IsSmall z → r ≡ ones_above z → IsOnesAbove z r
+ones_above-is z r h e =
+    let small : unsigned_abs z < 2 ^ 127 = small-size z h in
+    let same : pos (unsigned_abs z) ≡ z = size-is z h.0 in
+    subst (λ (r : ℤ). IsOnesAbove z r) (sym e)
+    (subst (λ (z : ℤ). IsOnesAbove z (ones_above z)) same (ones-of (unsigned_abs z) (omega arith)))
+
 -- ---- one number, or another interval
 
 same-held : (z v : ℤ) → z ≡ v → Holds (Span z z) v
@@ -195,10 +234,6 @@ exact_or-larger op a b c d e f g n small large o p h k l m held within =
     ]
 
 -- ---- AND, OR and XOR of natural numbers
-
-size-is : (z : ℤ) → pos 0 ≤ℤ z → pos (unsigned_abs z) ≡ z
-size-is (pos n) h = refl
-size-is (negsuc n) h = absurd (omega (arith, ints))
 
 pub size-up : (x z : ℤ) → pos 0 ≤ℤ x → x ≤ℤ z → unsigned_abs x ≤ unsigned_abs z
 size-up (pos x) (pos z) h k = omega (arith, ints)

@@ -1,6 +1,6 @@
 -- The operators on bit strings, BOOL among them, which are read as unsigned numbers. Source: IEC 61131-3, bitwise Boolean
 -- functions; the intervals are this profile's choice. The code works on machine words; here patterns are numbers of any size.
-use Rattle.std.specs.Prelude.{◌≡◌, ℕ, zero, suc, ◌-◌, ◌/◌, ◌^◌, ◌&&◌, nat_eq, if◌then◌else◌, ℤ, pos, ◌-ℤ◌, bit_and, bit_or, bit_xor, unsigned_abs}
+use Rattle.std.specs.Prelude.{◌≡◌, ℕ, zero, suc, ◌-◌, ◌/◌, ◌^◌, ◌&&◌, nat_eq, if◌then◌else◌, ℤ, pos, ◌-ℤ◌, ◌≤ℤ◌, bit_and, bit_or, bit_xor, unsigned_abs}
 use Rattle.std.specs.Int.{int_max, int_min}
 use Rattle.std.specs.Ordering.{int_eq}
 use Rattle.iec_tables.specs.declared.elem.Elem.{Elem}
@@ -70,6 +70,12 @@ digits (suc most) n = if nat_eq n 0 then 0 else suc (digits most (n / 2))
 -- the least 2^k - 1 that is not below the number, which is below 2^128
 abbrev pub ones_above : ℤ → ℤ
 ones_above z = pos (2 ^ digits 128 (unsigned_abs z) - 1)
+
+-- r is some 2^k - 1 that is not below z, and no lesser one is
+pub record IsOnesAbove (z r : ℤ) : Type 0 where
+  pub ones : (k : ℕ) × (r ≡ pos (2 ^ k - 1))
+  pub above : z ≤ℤ r
+  pub least : (k : ℕ) → z ≤ℤ pos (2 ^ k - 1) → r ≤ℤ pos (2 ^ k - 1)
 
 abbrev pub and_row : Interval → Interval → Interval
 and_row Empty j = Empty

@@ -180,7 +180,8 @@ fn xor_of(x: i128, y: i128) -> i128
 // The least number of ones that is not below a number.
 fn ones_above(z: i128) -> i128
     requires { pos 0 ≤ℤ z }
-    ensures { result ≡ rows.ones_above z }
+    ensures value { result ≡ rows.ones_above z }
+    ensures least { rows.IsOnesAbove z result }
 {
     let digits = 128 - (z as u128).leading_zeros();
     ((1u128 << digits) - 1) as i128

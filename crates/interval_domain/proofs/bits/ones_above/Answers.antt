@@ -3,7 +3,7 @@ use Rattle.std.specs.Int.Count.{count_leading_zeros}
 use Rattle.std.proofs.lemmas.Int.{to_z-of_z}
 use mir.Syntax.{w128}
 use Rattle.interval_domain.specs.Bits.{ones_above}
-use Rattle.interval_domain.proofs.Patterns.{shift-below, shifted-some, shifted-fits, shifted-is}
+use Rattle.interval_domain.proofs.Patterns.{shift-below, shifted-some, shifted-fits, shifted-is, ones_above-is}
 use Rattle.interval_domain.proofs.bits.ones_above.Goals as goal
 
 pub overflow_shl-result : goal.overflow_shl-result
@@ -23,8 +23,13 @@ overflow_cast-result-2 c =
     subst (λ (z : ℤ). FitsSigned w128 (pos (1 * 2 ^ (128 - count_leading_zeros 128 (unsigned_abs z)) % 340282366920938463463374607431768211456 - 1))) (sym e)
     (shifted-fits c.args.z (c.requires, c.ranges.z))
 
-pub returns : goal.returns
-returns c =
+pub returns-clause-value : goal.returns-clause-value
+returns-clause-value c =
     let e = to_z-of_z w128 c.args.z c.ranges.z in
     subst (λ (z : ℤ). to_z w128 (1 * 2 ^ (128 - count_leading_zeros 128 (unsigned_abs z)) % 340282366920938463463374607431768211456 - 1) ≡ ones_above c.args.z) (sym e)
     (shifted-is c.args.z (c.requires, c.ranges.z))
+
+pub returns-clause-least : goal.returns-clause-least
+returns-clause-least c =
+    let value : goal.returns-clause-value = returns-clause-value in
+    ones_above-is c.args.z _ (c.requires, c.ranges.z) (value c)

@@ -30,6 +30,6 @@ returns-in-Some-Some-clause-value c =
     let exact = c.or_of.ensures ∙ (λ n. or_of (e0 n) (e2 n)) in
     let low = c.max.ensures.value ∙ (λ n. int_max (e0 n) (e2 n)) in
     let high = c.max-in-Some-Some.ensures.value ∙ (λ n. int_max (e1 n) (e3 n)) in
-    let ones = c.ones_above.ensures ∙ ap ones_above (e6 ∙ high) in
+    let ones = c.ones_above.ensures.value ∙ ap ones_above (e6 ∙ high) in
     let other = c.of.ensures ∙ (λ n. span ((e5 ∙ low) n) ((e7 ∙ ones) n)) in
     c.exact_or.ensures ∙ (λ n. exact_or (e0 n) (e1 n) (e2 n) (e3 n) ((e4 ∙ exact) n) (other n)) ∙ sym (or-at _ _ _ _ _ _ left right)

@@ -27,6 +27,6 @@ returns-in-Some-Some-clause-value c =
     let e6 = to_z-of_z w128 c.ones_above.result f6 in
     let exact = c.xor_of.ensures ∙ (λ n. xor_of (e0 n) (e2 n)) in
     let high = c.max.ensures.value ∙ (λ n. int_max (e1 n) (e3 n)) in
-    let ones = c.ones_above.ensures ∙ ap ones_above (e5 ∙ high) in
+    let ones = c.ones_above.ensures.value ∙ ap ones_above (e5 ∙ high) in
     let other = c.of.ensures ∙ ap (span (pos 0)) (e6 ∙ ones) in
     c.exact_or.ensures ∙ (λ n. exact_or (e0 n) (e1 n) (e2 n) (e3 n) ((e4 ∙ exact) n) (other n)) ∙ sym (xor-at _ _ _ _ _ _ left right)
