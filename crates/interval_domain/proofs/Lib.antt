@@ -1,6 +1,15 @@
+pub mod Between
 pub mod Bounds
+pub mod Choices
 pub mod Laws
+pub mod OneGrid
+pub mod Patterns
+pub mod Products
+pub mod Quotients
+pub mod Remainders
 pub mod Rounding
 pub mod Searching
 pub mod Sets
-pub mod OneGrid
+pub mod Signs
+pub mod Tests
+pub mod Turning

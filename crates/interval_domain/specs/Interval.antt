@@ -18,6 +18,11 @@ abbrev pub holds : Interval → ℤ → Bool
 holds Empty v = false
 holds (Span low high) v = int_le low v && int_le v high
 
+-- the low bound is at most the high one
+abbrev pub IsOrdered : Interval → Type 0
+IsOrdered Empty = Unit {0}
+IsOrdered (Span low high) = low ≤ℤ high
+
 -- the first interval lies within the second
 abbrev pub IsWithin : Interval → Interval → Type 0
 IsWithin Empty j = Unit {0}

@@ -1,4 +1,9 @@
+pub mod Arithmetic
+pub mod Bits
+pub mod Comparison
 pub mod Grid
 pub mod Interval
 pub mod Operators
+pub mod Selection
+pub mod Shifts
 pub mod Stored

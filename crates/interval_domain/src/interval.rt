@@ -66,6 +66,7 @@ impl Interval {
     pub fn bounds(self) -> Option<(i128, i128)>
         ensures value { MatchOption result (self ≡ intervals.Empty) (λ b. self ≡ intervals.Span b.0 b.1) }
         ensures ordered { IfSome result (λ b. b.0 ≤ℤ b.1) }
+        ensures whole { intervals.IsOrdered self }
     {
         if self.low <= self.high {
             Some((self.low, self.high))

@@ -52,13 +52,25 @@ pub fn alarm(kind: Kind, value: Interval, allowed: Interval) -> bool
     }
 }
 
-fn typed(t: Elem, raw: Interval) -> Out
+// The raw result and its part in the range of the type.
+pub(crate) fn typed(t: Elem, raw: Interval) -> Out
     ensures raw { result.raw ≡ raw }
     ensures result { result.result ≡ rows.typed t raw }
 {
     Out {
         raw,
         result: meet(raw, range_of(t)),
+    }
+}
+
+// What an operator without a raw result gives.
+pub(crate) fn plain(interval: Interval) -> Out
+    ensures raw { result.raw ≡ interval }
+    ensures result { result.result ≡ interval }
+{
+    Out {
+        raw: interval,
+        result: interval,
     }
 }
 

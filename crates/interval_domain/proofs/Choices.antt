@@ -1,0 +1,164 @@
+-- The laws of MIN, MAX, LIMIT, SEL and conversions.
+use Rattle.std.proofs.Common.{◌≡◌, inl, inr, Bool, true, false, not, ◌||◌, ℤ, pos, ◌≤ℤ◌, int_le, arith, subst, sym, refl, ap, ◌∙◌}
+use Rattle.std.specs.Int.{int_max, int_min}
+use Rattle.std.specs.Ordering.{int_eq}
+use Rattle.std.proofs.lemmas.Int.{ints, clamps}
+use Rattle.std.proofs.lemmas.Bool.{cases_Bool}
+use Rattle.std.proofs.lemmas.Bool.Decides.{Decides-int_eq}
+use Rattle.iec_tables.specs.declared.elem.Elem.{Elem}
+use Rattle.interval_domain.specs.Interval.{Interval, Empty, Span, Holds, holds, IsWithin, is_within, is_empty, span, hull}
+use Rattle.interval_domain.specs.Operators.{range_of, typed}
+use Rattle.interval_domain.specs.Selection.{least_of, greatest_of, limited, chosen, min_row, max_row, limit_row, sel_row, given, HoldsAll, MeetsPlainLaws, MeetsTernaryLaws, MeetsConversionLaws}
+use Rattle.interval_domain.specs.Stored.{span-ordered}
+use Rattle.interval_domain.proofs.Laws.{meet-holds, meet-within}
+use Rattle.interval_domain.proofs.Between.{hull-left, hull-right}
+
+pub min-spans : (a b c d : ℤ) → a ≤ℤ b → c ≤ℤ d → span (int_min a c) (int_min b d) ≡ min_row (Span a b) (Span c d)
+min-spans a b c d h k = span-ordered (int_min a c) (int_min b d) (omega (arith, ints, clamps))
+
+pub max-spans : (a b c d : ℤ) → a ≤ℤ b → c ≤ℤ d → span (int_max a c) (int_max b d) ≡ max_row (Span a b) (Span c d)
+max-spans a b c d h k = span-ordered (int_max a c) (int_max b d) (omega (arith, ints, clamps))
+
+held-min : (i j : Interval) → HoldsAll least_of i j (min_row i j)
+held-min Empty j x y h k = absurd h
+held-min (Span a b) Empty x y h k = absurd k
+held-min (Span a b) (Span c d) x y h k = (omega (arith, ints, clamps), omega (arith, ints, clamps))
+
+held-max : (i j : Interval) → HoldsAll greatest_of i j (max_row i j)
+held-max Empty j x y h k = absurd h
+held-max (Span a b) Empty x y h k = absurd k
+held-max (Span a b) (Span c d) x y h k = (omega (arith, ints, clamps), omega (arith, ints, clamps))
+
+larger-min : (i j k l : Interval) → IsWithin i k → IsWithin j l → IsWithin (min_row i j) (min_row k l)
+larger-min Empty j k l h m = tt
+larger-min (Span a b) Empty k l h m = tt
+larger-min (Span a b) (Span c d) Empty l h m = absurd h
+larger-min (Span a b) (Span c d) (Span e f) Empty h m = absurd m
+larger-min (Span a b) (Span c d) (Span e f) (Span g n) h m = (omega (arith, ints, clamps), omega (arith, ints, clamps))
+
+larger-max : (i j k l : Interval) → IsWithin i k → IsWithin j l → IsWithin (max_row i j) (max_row k l)
+larger-max Empty j k l h m = tt
+larger-max (Span a b) Empty k l h m = tt
+larger-max (Span a b) (Span c d) Empty l h m = absurd h
+larger-max (Span a b) (Span c d) (Span e f) Empty h m = absurd m
+larger-max (Span a b) (Span c d) (Span e f) (Span g n) h m = (omega (arith, ints, clamps), omega (arith, ints, clamps))
+
+pub laws-min : (i j out : Interval) → out ≡ min_row i j → MeetsPlainLaws least_of min_row i j out
+laws-min i j out e =
+    subst (λ (out : Interval). MeetsPlainLaws least_of min_row i j out) (sym e)
+    (record { held = held-min i j; larger = larger-min i j })
+
+pub laws-max : (i j out : Interval) → out ≡ max_row i j → MeetsPlainLaws greatest_of max_row i j out
+laws-max i j out e =
+    subst (λ (out : Interval). MeetsPlainLaws greatest_of max_row i j out) (sym e)
+    (record { held = held-max i j; larger = larger-max i j })
+
+pub laws-limit : (mn i mx out : Interval) → out ≡ limit_row mn i mx → MeetsTernaryLaws limited limit_row mn i mx out
+laws-limit mn i mx out e =
+    subst (λ (out : Interval). MeetsTernaryLaws limited limit_row mn i mx out) (sym e)
+    (record {
+      held = λ x y z h k l. held-min (max_row i mn) mx (greatest_of y x) z (held-max i mn y x k h) l;
+      larger = λ a b c h k l. larger-min (max_row i mn) mx (max_row b a) c (larger-max i mn b a k h) l;
+    })
+
+-- ---- SEL
+
+int_le-true : (a b : ℤ) → a ≤ℤ b → int_le a b ≡ true
+int_le-true a b h = grind (arith, ints)
+
+holds-true : (i : Interval) (z : ℤ) → Holds i z → holds i z ≡ true
+holds-true Empty z h = absurd h
+holds-true (Span a b) z h = rw (int_le-true a z h.0, int_le-true z b h.1) refl
+
+held-not-empty : (i : Interval) (z : ℤ) → Holds i z → is_empty i ≡ false
+held-not-empty Empty z h = absurd h
+held-not-empty (Span a b) z h = refl
+
+zero-alone : (i : Interval) (z : ℤ) → Holds i z → is_within i (Span (pos 0) (pos 0)) ≡ true → z ≡ pos 0
+zero-alone Empty z h e = absurd h
+zero-alone (Span a b) z h e = grind (arith, ints)
+
+given-holds : (test : Bool) (i : Interval) (z : ℤ) → test ≡ true → Holds i z → Holds (given test i) z
+given-holds test i z e h = rw e h
+
+none-empty : (g i j : Interval) (x y z : ℤ) → Holds g x → Holds i y → Holds j z → not (is_empty g || is_empty i || is_empty j) ≡ true
+none-empty g i j x y z h k l = rw (held-not-empty g x h, held-not-empty i y k, held-not-empty j z l) refl
+
+held-sel : (g i j : Interval) (x y z : ℤ) → Holds g x → Holds i y → Holds j z → Holds (sel_row g i j) (chosen x y z)
+held-sel g i j x y z h k l =
+    given-holds _ _ _ (none-empty g i j x y z h k l)
+    (elim (cases_Bool (int_eq x (pos 0))) [
+      | inl e ↦
+          let zero : x ≡ pos 0 = (Decides-int_eq x (pos 0)).0 e in
+          let there : holds g (pos 0) ≡ true = holds-true g (pos 0) (subst (λ (v : ℤ). Holds g v) zero h) in
+          rw e (hull-left (given (holds g (pos 0)) i) (given (not (is_within g (Span (pos 0) (pos 0)))) j) y (given-holds (holds g (pos 0)) i y there k))
+      | inr e ↦
+          rw e (hull-right (given (holds g (pos 0)) i) (given (not (is_within g (Span (pos 0) (pos 0)))) j) z
+          (elim (cases_Bool (is_within g (Span (pos 0) (pos 0)))) [
+            | inl w ↦ let wrong : true ≡ false = sym ((Decides-int_eq x (pos 0)).1 (zero-alone g x h w)) ∙ e in cc
+            | inr w ↦ given-holds (not (is_within g (Span (pos 0) (pos 0)))) j z (ap not w) l
+          ]))
+    ])
+
+-- an interval under a test that holds more often
+given-larger : (s t : Bool) (i k : Interval) → (s ≡ true → t ≡ true) → IsWithin i k → IsWithin (given s i) (given t k)
+given-larger false t i k h m = tt
+given-larger true t i k h m = rw (h refl) m
+
+not-empty-larger : (i k : Interval) → IsWithin i k → is_empty i ≡ false → is_empty k ≡ false
+not-empty-larger Empty k h e = cc
+not-empty-larger (Span a b) Empty h e = absurd h
+not-empty-larger (Span a b) (Span c d) h e = refl
+
+none_of : (a b c : Bool) → not (a || b || c) ≡ true → (a ≡ false) × (b ≡ false) × (c ≡ false)
+none_of false false false e = (refl, refl, refl)
+none_of true b c e = cc
+none_of false true c e = cc
+none_of false false true e = cc
+
+all-larger : (g i j k l m : Interval) → IsWithin g k → IsWithin i l → IsWithin j m
+    → not (is_empty g || is_empty i || is_empty j) ≡ true → not (is_empty k || is_empty l || is_empty m) ≡ true
+all-larger g i j k l m p q r e =
+    let all = none_of (is_empty g) (is_empty i) (is_empty j) e in
+    rw (not-empty-larger g k p all.0, not-empty-larger i l q all.1, not-empty-larger j m r all.2) refl
+
+zero-larger : (g k : Interval) → IsWithin g k → holds g (pos 0) ≡ true → holds k (pos 0) ≡ true
+zero-larger Empty k h e = cc
+zero-larger (Span a b) Empty h e = absurd h
+zero-larger (Span a b) (Span c d) h e = grind (arith, ints)
+
+other-larger : (g k : Interval) → IsWithin g k → not (is_within g (Span (pos 0) (pos 0))) ≡ true → not (is_within k (Span (pos 0) (pos 0))) ≡ true
+other-larger Empty k h e = cc
+other-larger (Span a b) Empty h e = absurd h
+other-larger (Span a b) (Span c d) h e = grind (arith, ints)
+
+hull-larger : (i j k l : Interval) → IsWithin i k → IsWithin j l → IsWithin (hull i j) (hull k l)
+hull-larger Empty Empty k l h m = tt
+hull-larger Empty (Span c d) Empty l h m = m
+hull-larger Empty (Span c d) (Span e f) Empty h m = absurd m
+hull-larger Empty (Span c d) (Span e f) (Span g n) h m = (omega (arith, ints, clamps), omega (arith, ints, clamps))
+hull-larger (Span a b) j Empty l h m = absurd h
+hull-larger (Span a b) Empty (Span e f) Empty h m = h
+hull-larger (Span a b) Empty (Span e f) (Span g n) h m = (omega (arith, ints, clamps), omega (arith, ints, clamps))
+hull-larger (Span a b) (Span c d) (Span e f) Empty h m = absurd m
+hull-larger (Span a b) (Span c d) (Span e f) (Span g n) h m = (omega (arith, ints, clamps), omega (arith, ints, clamps))
+
+larger-sel : (g i j k l m : Interval) → IsWithin g k → IsWithin i l → IsWithin j m → IsWithin (sel_row g i j) (sel_row k l m)
+larger-sel g i j k l m p q r =
+    given-larger _ _ _ _ (all-larger g i j k l m p q r)
+    (hull-larger (given (holds g (pos 0)) i) (given (not (is_within g (Span (pos 0) (pos 0)))) j)
+    (given (holds k (pos 0)) l) (given (not (is_within k (Span (pos 0) (pos 0)))) m)
+    (given-larger (holds g (pos 0)) (holds k (pos 0)) i l (zero-larger g k p) q)
+    (given-larger (not (is_within g (Span (pos 0) (pos 0)))) (not (is_within k (Span (pos 0) (pos 0)))) j m (other-larger g k p) r))
+
+pub laws-sel : (g i j out : Interval) → out ≡ sel_row g i j → MeetsTernaryLaws chosen sel_row g i j out
+laws-sel g i j out e =
+    subst (λ (out : Interval). MeetsTernaryLaws chosen sel_row g i j out) (sym e)
+    (record { held = held-sel g i j; larger = larger-sel g i j })
+
+-- ---- conversions
+
+pub laws-convert : (t : Elem) (i out : Interval) → out ≡ typed t i → MeetsConversionLaws t i out
+laws-convert t i out e =
+    subst (λ (out : Interval). MeetsConversionLaws t i out) (sym e)
+    (record { held = λ x h r. meet-holds i (range_of t) x h r; larger = λ k h. meet-within i k (range_of t) h })

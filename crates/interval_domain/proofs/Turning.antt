@@ -1,0 +1,154 @@
+-- Patterns that are shifted and turned, and the laws of SHL, SHR, ROL and ROR.
+use Rattle.std.proofs.Common.{◌≡◌, ap, ◌∙◌, ℕ, ◌+◌, ◌*◌, ◌/◌, ◌%◌, ◌-◌, ◌^◌, ◌≤◌, ◌<◌, ℤ, pos, negsuc, ◌≤ℤ◌, unsigned_abs, arith, subst, sym}
+use Rattle.std.proofs.Math.Nat.{pow-le-pow_right}
+use Rattle.std.proofs.lemmas.Nat.{mul-add-lt, mod_below, pow_pos, pow-add, shr_below}
+use Rattle.std.proofs.lemmas.Int.{ints}
+use Rattle.interval_domain.specs.Interval.{Interval, Empty, Span, Holds, IsWithin, IsOrdered}
+use Rattle.interval_domain.specs.Selection.{HoldsAll}
+use Rattle.interval_domain.specs.Bits.{patterns}
+use Rattle.interval_domain.specs.Shifts.{moved, turns, turned, shl_of, shr_of, rol_of, ror_of, shl_row, shr_row, rol_row, ror_row, moved_row, MeetsShiftLaws}
+use Rattle.interval_domain.proofs.Laws.{span-holds, span-within}
+use Rattle.interval_domain.proofs.Between.{holds-within}
+use Rattle.interval_domain.proofs.Quotients.{div-up, div-down}
+use Rattle.interval_domain.proofs.Patterns.{exact_or-held, exact_or-larger, size-up}
+
+-- ---- patterns
+
+turned-below : (w x p : ℕ) → p ≤ w → x < 2 ^ w → turned w x p < 2 ^ w
+turned-below w x p h k =
+    let whole : (w - p) + p ≡ w = omega arith in
+    let split : 2 ^ w ≡ 2 ^ (w - p) * 2 ^ p = ap (λ n. 2 ^ n) (sym whole) ∙ pow-add 2 (w - p) p in
+    let fits : x < 2 ^ ((w - p) + p) = subst (λ (n : ℕ). x < 2 ^ n) (sym whole) k in
+    subst (λ (n : ℕ). turned w x p < n) (sym split)
+    (mul-add-lt (x % 2 ^ p) (2 ^ (w - p)) (x / 2 ^ p) (2 ^ p) (mod_below x (2 ^ p) (pow_pos p)) (shr_below x (w - p) p fits))
+
+-- what the code computes
+pub turned-at : (w x p r q : ℕ) → p ≤ w → x < 2 ^ w → q ≡ 2 ^ p → r ≡ (x % q) * 2 ^ (w - p) → r + x / 2 ^ p < 2 ^ w
+turned-at w x p r q h k e f =
+    subst (λ (n : ℕ). n + x / 2 ^ p < 2 ^ w) (sym (f ∙ ap (λ m. (x % m) * 2 ^ (w - p)) e)) (turned-below w x p h k)
+
+pub word-above : (w : ℕ) → w ≤ 64 → 2 ^ w ≤ 2 ^ 64
+word-above w h = pow-le-pow_right {n = 2} (omega arith) h
+
+turns-below : (w : ℕ) (n : ℤ) → 0 < w → turns w n < w
+turns-below w (pos n) h = mod_below n w h
+turns-below w (negsuc n) h = h
+
+natural-pattern : (w m : ℕ) → m < 2 ^ w → Holds (patterns w) (pos m)
+natural-pattern w m h = bounds m (2 ^ w) h
+  where
+    bounds : (m p : ℕ) → m < p → (pos 0 ≤ℤ pos m) × (pos m ≤ℤ pos (p - 1))
+    bounds m p h = (omega (arith, ints), omega (arith, ints))
+
+pattern-size : (w : ℕ) (x : ℤ) → Holds (patterns w) x → unsigned_abs x < 2 ^ w
+pattern-size w (pos x) h = below x (2 ^ w) (pow_pos w) h.1
+  where
+    below : (x p : ℕ) → 0 < p → pos x ≤ℤ pos (p - 1) → x < p
+    below x p h k = omega (arith, ints)
+pattern-size w (negsuc x) h = absurd (omega (arith, ints, h.0))
+
+-- the result of a pattern is one
+abbrev KeepsPatterns : (ℕ → ℤ → ℤ → ℤ) → ℕ → Type 0
+KeepsPatterns op w = (x n : ℤ) → Holds (patterns w) x → Holds (patterns w) (op w x n)
+
+keeps-shl : (w : ℕ) → KeepsPatterns shl_of w
+keeps-shl w x n h =
+    natural-pattern w (unsigned_abs x * 2 ^ moved w n % 2 ^ w) (mod_below (unsigned_abs x * 2 ^ moved w n) (2 ^ w) (pow_pos w))
+
+keeps-rol : (w : ℕ) → 0 < w → KeepsPatterns rol_of w
+keeps-rol w p x n h =
+    natural-pattern w (turned w (unsigned_abs x) (w - turns w n)) (turned-below w (unsigned_abs x) (w - turns w n) (omega arith) (pattern-size w x h))
+
+keeps-ror : (w : ℕ) → 0 < w → KeepsPatterns ror_of w
+keeps-ror w p x n h =
+    let below : turns w n < w = turns-below w n p in
+    natural-pattern w (turned w (unsigned_abs x) (turns w n)) (turned-below w (unsigned_abs x) (turns w n) (omega arith) (pattern-size w x h))
+
+-- ---- SHL, ROL and ROR
+
+moved-held : (op : ℕ → ℤ → ℤ → ℤ) (w : ℕ) → KeepsPatterns op w → (i j : Interval) → IsWithin i (patterns w) → HoldsAll (op w) i j (moved_row op w i j)
+moved-held op w keeps Empty j p x n h k = absurd h
+moved-held op w keeps (Span a b) Empty p x n h k = absurd k
+moved-held op w keeps (Span a b) (Span c d) p x n h k =
+    exact_or-held (op w) a b c d x n (patterns w) h.0 h.1 k.0 k.1 (keeps x n (holds-within (Span a b) (patterns w) x p h))
+
+same-within : (z : ℤ) → z ≤ℤ z
+same-within z = omega (arith, ints)
+
+through : (a b c : ℤ) → a ≤ℤ b → b ≤ℤ c → a ≤ℤ c
+through a b c h k = omega (arith, ints)
+
+moved-larger : (op : ℕ → ℤ → ℤ → ℤ) (w : ℕ) → KeepsPatterns op w → (i j : Interval) → IsOrdered i → IsOrdered j → IsWithin i (patterns w)
+    → (k l : Interval) → IsWithin i k → IsWithin j l → IsWithin (moved_row op w i j) (moved_row op w k l)
+moved-larger op w keeps Empty j o q p k l h m = tt
+moved-larger op w keeps (Span a b) Empty o q p k l h m = tt
+moved-larger op w keeps (Span a b) (Span c d) o q p Empty l h m = absurd h
+moved-larger op w keeps (Span a b) (Span c d) o q p (Span e f) Empty h m = absurd m
+moved-larger op w keeps (Span a b) (Span c d) o q p (Span e f) (Span g n) h m =
+    exact_or-larger (op w) a b c d e f g n (patterns w) (patterns w) o q h.0 h.1 m.0 m.1
+    (keeps a c (p.0, through a b (pos (2 ^ w - 1)) o p.1)) (same-within (pos 0), same-within (pos (2 ^ w - 1)))
+
+laws-of : (op : ℕ → ℤ → ℤ → ℤ) (w v : ℕ) (i j out : Interval) → KeepsPatterns op w → IsOrdered i × IsOrdered j → IsWithin i (patterns w)
+    → v ≡ w → out ≡ moved_row op v i j → MeetsShiftLaws op (moved_row op) w i j out
+laws-of op w v i j out keeps o p f e =
+    subst (λ (out : Interval). MeetsShiftLaws op (moved_row op) w i j out) (sym (e ∙ ap (λ w. moved_row op w i j) f))
+    (record { held = moved-held op w keeps i j p; larger = λ k l q h m. moved-larger op w keeps i j o.0 o.1 p k l h m })
+
+pub laws-shl : (w v : ℕ) (i j out : Interval) → IsOrdered i × IsOrdered j → IsWithin i (patterns w) → v ≡ w → out ≡ shl_row v i j
+    → MeetsShiftLaws shl_of shl_row w i j out
+laws-shl w v i j out o p f e = laws-of shl_of w v i j out (keeps-shl w) o p f e
+
+pub laws-rol : (w v : ℕ) (i j out : Interval) → 0 < v → IsOrdered i × IsOrdered j → IsWithin i (patterns w) → v ≡ w → out ≡ rol_row v i j
+    → MeetsShiftLaws rol_of rol_row w i j out
+laws-rol w v i j out s o p f e = laws-of rol_of w v i j out (keeps-rol w (subst (λ (n : ℕ). 0 < n) f s)) o p f e
+
+pub laws-ror : (w v : ℕ) (i j out : Interval) → 0 < v → IsOrdered i × IsOrdered j → IsWithin i (patterns w) → v ≡ w → out ≡ ror_row v i j
+    → MeetsShiftLaws ror_of ror_row w i j out
+laws-ror w v i j out s o p f e = laws-of ror_of w v i j out (keeps-ror w (subst (λ (n : ℕ). 0 < n) f s)) o p f e
+
+-- ---- SHR
+
+moved-up : (w : ℕ) (m n : ℤ) → m ≤ℤ n → moved w m ≤ moved w n
+moved-up w (pos m) (pos n) h = omega (arith, ints)
+moved-up w (pos m) (negsuc n) h = absurd (omega (arith, ints))
+moved-up w (negsuc m) n h = omega arith
+
+pos-le : (m n : ℕ) → m ≤ n → pos m ≤ℤ pos n
+pos-le m n h = omega (arith, ints)
+
+-- a greater number by a less count
+shr-up : (w : ℕ) (a x m n : ℤ) → pos 0 ≤ℤ a → a ≤ℤ x → n ≤ℤ m → shr_of w a m ≤ℤ shr_of w x n
+shr-up w a x m n p h k =
+    let first : unsigned_abs a / 2 ^ moved w m ≤ unsigned_abs x / 2 ^ moved w m =
+    div-up (unsigned_abs a) (unsigned_abs x) (2 ^ moved w m) (pow_pos (moved w m)) (size-up a x p h) in
+    let powers : 2 ^ moved w n ≤ 2 ^ moved w m = pow-le-pow_right {n = 2} (omega arith) (moved-up w n m k) in
+    let second : unsigned_abs x / 2 ^ moved w m ≤ unsigned_abs x / 2 ^ moved w n =
+    div-down (unsigned_abs x) (2 ^ moved w n) (2 ^ moved w m) (pow_pos (moved w n)) powers in
+    pos-le (unsigned_abs a / 2 ^ moved w m) (unsigned_abs x / 2 ^ moved w n)
+    (joined (unsigned_abs a / 2 ^ moved w m) (unsigned_abs x / 2 ^ moved w m) (unsigned_abs x / 2 ^ moved w n) first second)
+  where
+    joined : (a b c : ℕ) → a ≤ b → b ≤ c → a ≤ c
+    joined a b c h k = omega arith
+
+held-shr : (w : ℕ) (i j : Interval) → IsWithin i (patterns w) → HoldsAll (shr_of w) i j (shr_row w i j)
+held-shr w Empty j p x n h k = absurd h
+held-shr w (Span a b) Empty p x n h k = absurd k
+held-shr w (Span a b) (Span c d) p x n h k =
+    span-holds (shr_of w a d) (shr_of w b c) (shr_of w x n)
+    (shr-up w a x d n p.0 h.0 k.1) (shr-up w x b n c (through (pos 0) a x p.0 h.0) h.1 k.0)
+
+larger-shr : (w : ℕ) (i j : Interval) → IsOrdered i → IsWithin i (patterns w) → (k l : Interval) → IsWithin k (patterns w)
+    → IsWithin i k → IsWithin j l → IsWithin (shr_row w i j) (shr_row w k l)
+larger-shr w Empty j o p k l q h m = tt
+larger-shr w (Span a b) Empty o p k l q h m = tt
+larger-shr w (Span a b) (Span c d) o p Empty l q h m = absurd h
+larger-shr w (Span a b) (Span c d) o p (Span e f) Empty q h m = absurd m
+larger-shr w (Span a b) (Span c d) o p (Span e f) (Span g n) q h m =
+    span-within (shr_of w a d) (shr_of w b c) (shr_of w e n) (shr_of w f g)
+    (shr-up w e a n d q.0 h.0 m.1) (shr-up w b f c g (through (pos 0) a b p.0 o) h.1 m.0)
+
+pub laws-shr : (w v : ℕ) (i j out : Interval) → IsOrdered i → IsWithin i (patterns w) → v ≡ w → out ≡ shr_row v i j
+    → MeetsShiftLaws shr_of shr_row w i j out
+laws-shr w v i j out o p f e =
+    subst (λ (out : Interval). MeetsShiftLaws shr_of shr_row w i j out) (sym (e ∙ ap (λ w. shr_row w i j) f))
+    (record { held = held-shr w i j p; larger = larger-shr w i j o p })

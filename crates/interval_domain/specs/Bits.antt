@@ -1,0 +1,118 @@
+-- The operators on bit strings, BOOL among them, which are read as unsigned numbers. Source: IEC 61131-3, bitwise Boolean
+-- functions; the intervals are this profile's choice. The code works on machine words; here patterns are numbers of any size.
+use Rattle.std.specs.Prelude.{◌≡◌, ℕ, zero, suc, ◌-◌, ◌/◌, ◌^◌, ◌&&◌, nat_eq, if◌then◌else◌, ℤ, pos, ◌-ℤ◌, ◌≤ℤ◌, bit_and, bit_or, bit_xor, unsigned_abs}
+use Rattle.std.specs.Int.{int_max, int_min}
+use Rattle.std.specs.Ordering.{int_eq}
+use Rattle.iec_tables.specs.declared.elem.Elem.{Elem}
+use Rattle.iec_tables.specs.declared.elem.Elem.TheVariants.{Sint, Int, Dint, Lint, Usint, Uint, Udint, Ulint, Bool, Byte, Word, Dword, Lword, Time}
+use Rattle.interval_domain.specs.Interval.{Interval, Empty, Span, Holds, IsWithin, span}
+use Rattle.interval_domain.specs.Selection.{HoldsAll}
+
+-- how many bits a type has
+abbrev pub width_of : Elem → ℕ
+width_of Sint = 8
+width_of Int = 16
+width_of Dint = 32
+width_of Lint = 64
+width_of Usint = 8
+width_of Uint = 16
+width_of Udint = 32
+width_of Ulint = 64
+width_of Bool = 1
+width_of Byte = 8
+width_of Word = 16
+width_of Dword = 32
+width_of Lword = 64
+width_of Time = 64
+
+-- the number whose bits are all 1
+abbrev pub all_ones : Elem → ℤ
+all_ones t = pos (2 ^ width_of t - 1)
+
+-- the patterns of that many bits
+abbrev pub patterns : ℕ → Interval
+patterns width = Span (pos 0) (pos (2 ^ width - 1))
+
+-- the patterns of a type: the range of a bit string
+abbrev pub bits_range : Elem → Interval
+bits_range t = patterns (width_of t)
+
+-- the patterns of the widest type
+abbrev pub words : Interval
+words = patterns 64
+
+-- ---- on numbers, bit by bit
+
+abbrev pub and_of : ℤ → ℤ → ℤ
+and_of x y = pos (bit_and (unsigned_abs x) (unsigned_abs y))
+
+abbrev pub or_of : ℤ → ℤ → ℤ
+or_of x y = pos (bit_or (unsigned_abs x) (unsigned_abs y))
+
+abbrev pub xor_of : ℤ → ℤ → ℤ
+xor_of x y = pos (bit_xor (unsigned_abs x) (unsigned_abs y))
+
+-- NOT: each bit turned round
+abbrev pub not_of : Elem → ℤ → ℤ
+not_of t x = all_ones t -ℤ x
+
+-- ---- on intervals
+
+-- one number where both operands are single, else another interval
+abbrev pub exact_or : (a b c d exact : ℤ) → Interval → Interval
+exact_or a b c d exact other = if int_eq a b && int_eq c d then Span exact exact else other
+
+-- how many binary digits n has, of at most `most`
+unfoldable pub digits : (most : ℕ) → ℕ → ℕ
+digits zero n = 0
+digits (suc most) n = if nat_eq n 0 then 0 else suc (digits most (n / 2))
+
+-- the least 2^k - 1 that is not below the number, which is below 2^128
+abbrev pub ones_above : ℤ → ℤ
+ones_above z = pos (2 ^ digits 128 (unsigned_abs z) - 1)
+
+-- r is some 2^k - 1 that is not below z, and no lesser one is
+pub record IsOnesAbove (z r : ℤ) : Type 0 where
+  pub ones : (k : ℕ) × (r ≡ pos (2 ^ k - 1))
+  pub above : z ≤ℤ r
+  pub least : (k : ℕ) → z ≤ℤ pos (2 ^ k - 1) → r ≤ℤ pos (2 ^ k - 1)
+
+abbrev pub and_row : Interval → Interval → Interval
+and_row Empty j = Empty
+and_row (Span a b) Empty = Empty
+and_row (Span a b) (Span c d) = exact_or a b c d (and_of a c) (span (pos 0) (int_min b d))
+
+abbrev pub or_row : Interval → Interval → Interval
+or_row Empty j = Empty
+or_row (Span a b) Empty = Empty
+or_row (Span a b) (Span c d) = exact_or a b c d (or_of a c) (span (int_max a c) (ones_above (int_max b d)))
+
+abbrev pub xor_row : Interval → Interval → Interval
+xor_row Empty j = Empty
+xor_row (Span a b) Empty = Empty
+xor_row (Span a b) (Span c d) = exact_or a b c d (xor_of a c) (span (pos 0) (ones_above (int_max b d)))
+
+-- each number taken from the greatest
+abbrev pub mirrored : (greatest : ℤ) → Interval → Interval
+mirrored greatest Empty = Empty
+mirrored greatest (Span a b) = Span (greatest -ℤ b) (greatest -ℤ a)
+
+abbrev pub not_row : Elem → Interval → Interval
+not_row t i = mirrored (all_ones t) i
+
+-- ---- laws
+
+-- No smaller interval holds all results. So on BOOL the rows above are the values that occur.
+abbrev pub IsLeastOfAll : (ℤ → ℤ → ℤ) → Interval → Interval → Interval → Type 0
+IsLeastOfAll op a b out = (j : Interval) → HoldsAll op a b j → IsWithin out j
+
+-- of AND, OR and XOR
+pub record MeetsBitLaws (op : ℤ → ℤ → ℤ) (row : Interval → Interval → Interval) (t : Elem) (a b out : Interval) : Type 0 where
+  pub held : HoldsAll op a b out
+  pub larger : (c d : Interval) → IsWithin a c → IsWithin b d → IsWithin out (row c d)
+  pub occurring : width_of t ≡ 1 → IsLeastOfAll op a b out
+
+-- of NOT
+pub record MeetsNotLaws (t : Elem) (a out : Interval) : Type 0 where
+  pub held : (x : ℤ) → Holds a x → Holds out (not_of t x)
+  pub larger : (c : Interval) → IsWithin a c → IsWithin out (not_row t c)

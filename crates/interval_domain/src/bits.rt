@@ -1,0 +1,188 @@
+// AND, OR, XOR and NOT of intervals of bit patterns, BOOL among them.
+ghost use Rattle.std.specs.Prelude.{◌≡◌, pos, ◌≤ℤ◌, ◌-ℤ◌, ◌-◌, ◌^◌};
+ghost use Rattle.interval_domain.specs.Interval as intervals;
+ghost use Rattle.interval_domain.specs.Bits as rows;
+
+use crate::interval::Interval;
+use crate::operators::{Out, plain};
+use iec_tables::elem::Elem;
+
+/// The patterns with the bits that both have. The operands are patterns of the type: for a bit string, numbers in its range.
+pub fn and(t: Elem, a: Interval, b: Interval) -> Out
+    requires left { intervals.IsWithin a (rows.bits_range t) }
+    requires right { intervals.IsWithin b (rows.bits_range t) }
+    ensures raw { result.raw ≡ rows.and_row a b }
+    ensures result { result.result ≡ rows.and_row a b }
+    ensures laws { rows.MeetsBitLaws rows.and_of rows.and_row t a b result.result }
+{
+    plain(and_bounds(a, b))
+}
+
+/// The patterns with the bits that either has. The operands are patterns of the type: for a bit string, numbers in its range.
+pub fn or(t: Elem, a: Interval, b: Interval) -> Out
+    requires left { intervals.IsWithin a (rows.bits_range t) }
+    requires right { intervals.IsWithin b (rows.bits_range t) }
+    ensures raw { result.raw ≡ rows.or_row a b }
+    ensures result { result.result ≡ rows.or_row a b }
+    ensures laws { rows.MeetsBitLaws rows.or_of rows.or_row t a b result.result }
+{
+    plain(or_bounds(a, b))
+}
+
+/// The patterns with the bits that one of both has. The operands are patterns of the type: for a bit string, numbers in its
+/// range.
+pub fn xor(t: Elem, a: Interval, b: Interval) -> Out
+    requires left { intervals.IsWithin a (rows.bits_range t) }
+    requires right { intervals.IsWithin b (rows.bits_range t) }
+    ensures raw { result.raw ≡ rows.xor_row a b }
+    ensures result { result.result ≡ rows.xor_row a b }
+    ensures laws { rows.MeetsBitLaws rows.xor_of rows.xor_row t a b result.result }
+{
+    plain(xor_bounds(a, b))
+}
+
+/// The patterns with each bit turned round. The operand is of patterns of the type: for a bit string, numbers in its range.
+pub fn not(t: Elem, a: Interval) -> Out
+    requires { intervals.IsWithin a (rows.bits_range t) }
+    ensures raw { result.raw ≡ rows.not_row t a }
+    ensures result { result.result ≡ rows.not_row t a }
+    ensures laws { rows.MeetsNotLaws t a result.result }
+{
+    plain(not_bounds(all_ones(t), a))
+}
+
+/// The patterns of a type as numbers; for a bit string, its range.
+pub fn patterns_of(t: Elem) -> Interval
+    ensures { result ≡ rows.bits_range t }
+{
+    Interval::of(0, all_ones(t))
+}
+
+/// The number whose bits are all 1.
+pub fn all_ones(t: Elem) -> i128
+    ensures { result ≡ rows.all_ones t }
+{
+    match t {
+        Elem::Bool => 1,
+        Elem::Sint | Elem::Usint | Elem::Byte => u8::MAX as i128,
+        Elem::Int | Elem::Uint | Elem::Word => u16::MAX as i128,
+        Elem::Dint | Elem::Udint | Elem::Dword => u32::MAX as i128,
+        Elem::Lint | Elem::Ulint | Elem::Lword | Elem::Time => u64::MAX as i128,
+    }
+}
+
+fn and_bounds(a: Interval, b: Interval) -> Interval
+    requires left { intervals.IsWithin a rows.words }
+    requires right { intervals.IsWithin b rows.words }
+    ensures value { result ≡ rows.and_row a b }
+    ensures ordered { intervals.IsOrdered a × intervals.IsOrdered b }
+{
+    match (a.bounds(), b.bounds()) {
+        (Some((a, b)), Some((c, d))) => {
+            exact_or(a, b, c, d, and_of(a, c), Interval::of(0, b.min(d)))
+        },
+        _ => Interval::empty(),
+    }
+}
+
+fn or_bounds(a: Interval, b: Interval) -> Interval
+    requires left { intervals.IsWithin a rows.words }
+    requires right { intervals.IsWithin b rows.words }
+    ensures value { result ≡ rows.or_row a b }
+    ensures ordered { intervals.IsOrdered a × intervals.IsOrdered b }
+{
+    match (a.bounds(), b.bounds()) {
+        (Some((a, b)), Some((c, d))) => exact_or(
+            a,
+            b,
+            c,
+            d,
+            or_of(a, c),
+            Interval::of(a.max(c), ones_above(b.max(d))),
+        ),
+        _ => Interval::empty(),
+    }
+}
+
+fn xor_bounds(a: Interval, b: Interval) -> Interval
+    requires left { intervals.IsWithin a rows.words }
+    requires right { intervals.IsWithin b rows.words }
+    ensures value { result ≡ rows.xor_row a b }
+    ensures ordered { intervals.IsOrdered a × intervals.IsOrdered b }
+{
+    match (a.bounds(), b.bounds()) {
+        (Some((a, b)), Some((c, d))) => exact_or(
+            a,
+            b,
+            c,
+            d,
+            xor_of(a, c),
+            Interval::of(0, ones_above(b.max(d))),
+        ),
+        _ => Interval::empty(),
+    }
+}
+
+fn not_bounds(ones: i128, a: Interval) -> Interval
+    requires ones { ones ≤ℤ pos (2 ^ 64 - 1) }
+    requires within { intervals.IsWithin a (intervals.Span (pos 0) ones) }
+    ensures { result ≡ rows.mirrored ones a }
+{
+    match a.bounds() {
+        None => Interval::empty(),
+        Some((low, high)) => Interval::of(turned_bits(ones, high), turned_bits(ones, low)),
+    }
+}
+
+fn turned_bits(ones: i128, number: i128) -> i128
+    requires low { pos 0 ≤ℤ number }
+    requires high { number ≤ℤ ones }
+    ensures { result ≡ ones -ℤ number }
+{
+    ones - number
+}
+
+// One number where both operands are single, else another interval.
+pub(crate) fn exact_or(a: i128, b: i128, c: i128, d: i128, exact: i128, other: Interval) -> Interval
+    ensures { result ≡ rows.exact_or a b c d exact other }
+{
+    if a == b && c == d {
+        Interval::single(exact)
+    } else {
+        other
+    }
+}
+
+fn and_of(x: i128, y: i128) -> i128
+    requires left { pos 0 ≤ℤ x }
+    requires right { pos 0 ≤ℤ y }
+    ensures { result ≡ rows.and_of x y }
+{
+    (x as u128 & y as u128) as i128
+}
+
+fn or_of(x: i128, y: i128) -> i128
+    requires left { pos 0 ≤ℤ x }
+    requires right { pos 0 ≤ℤ y }
+    ensures { result ≡ rows.or_of x y }
+{
+    (x as u128 | y as u128) as i128
+}
+
+fn xor_of(x: i128, y: i128) -> i128
+    requires left { pos 0 ≤ℤ x }
+    requires right { pos 0 ≤ℤ y }
+    ensures { result ≡ rows.xor_of x y }
+{
+    (x as u128 ^ y as u128) as i128
+}
+
+// The least number of ones that is not below a number.
+fn ones_above(z: i128) -> i128
+    requires { pos 0 ≤ℤ z }
+    ensures value { result ≡ rows.ones_above z }
+    ensures least { rows.IsOnesAbove z result }
+{
+    let digits = 128 - (z as u128).leading_zeros();
+    ((1u128 << digits) - 1) as i128
+}

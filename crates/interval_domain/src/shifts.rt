@@ -1,0 +1,218 @@
+// Shifts and rotations of intervals of bit patterns.
+ghost use Rattle.std.specs.Prelude.{◌≡◌, ◌<◌, ◌≤◌, ◌-◌, ◌*◌, ◌^◌, pos, ◌≤ℤ◌};
+ghost use Rattle.interval_domain.specs.Interval as intervals;
+ghost use Rattle.interval_domain.specs.Bits as bits;
+ghost use Rattle.interval_domain.specs.Shifts as rows;
+
+use crate::bits::exact_or;
+use crate::interval::Interval;
+use crate::operators::{Out, plain};
+use iec_tables::elem::Elem;
+
+/// The patterns moved up by the counts. The first operand is of patterns of the type: for a bit string, numbers in its range.
+pub fn shl(t: Elem, a: Interval, n: Interval) -> Out
+    requires { intervals.IsWithin a (bits.bits_range t) }
+    ensures raw { result.raw ≡ rows.shl_row (bits.width_of t) a n }
+    ensures result { result.result ≡ rows.shl_row (bits.width_of t) a n }
+    ensures laws { rows.MeetsShiftLaws rows.shl_of rows.shl_row (bits.width_of t) a n result.result }
+{
+    plain(shl_bounds(width(t), a, n))
+}
+
+/// The patterns moved down by the counts. The first operand is of patterns of the type: for a bit string, numbers in its range.
+pub fn shr(t: Elem, a: Interval, n: Interval) -> Out
+    requires { intervals.IsWithin a (bits.bits_range t) }
+    ensures raw { result.raw ≡ rows.shr_row (bits.width_of t) a n }
+    ensures result { result.result ≡ rows.shr_row (bits.width_of t) a n }
+    ensures laws { rows.MeetsShiftLaws rows.shr_of rows.shr_row (bits.width_of t) a n result.result }
+{
+    plain(shr_bounds(width(t), a, n))
+}
+
+/// The patterns turned up by the counts. The first operand is of patterns of the type: for a bit string, numbers in its range.
+pub fn rol(t: Elem, a: Interval, n: Interval) -> Out
+    requires { intervals.IsWithin a (bits.bits_range t) }
+    ensures raw { result.raw ≡ rows.rol_row (bits.width_of t) a n }
+    ensures result { result.result ≡ rows.rol_row (bits.width_of t) a n }
+    ensures laws { rows.MeetsShiftLaws rows.rol_of rows.rol_row (bits.width_of t) a n result.result }
+{
+    plain(rol_bounds(width(t), a, n))
+}
+
+/// The patterns turned down by the counts. The first operand is of patterns of the type: for a bit string, numbers in its
+/// range.
+pub fn ror(t: Elem, a: Interval, n: Interval) -> Out
+    requires { intervals.IsWithin a (bits.bits_range t) }
+    ensures raw { result.raw ≡ rows.ror_row (bits.width_of t) a n }
+    ensures result { result.result ≡ rows.ror_row (bits.width_of t) a n }
+    ensures laws { rows.MeetsShiftLaws rows.ror_of rows.ror_row (bits.width_of t) a n result.result }
+{
+    plain(ror_bounds(width(t), a, n))
+}
+
+/// How many bits a type has.
+pub fn width(t: Elem) -> u32
+    ensures value { result ≡ bits.width_of t }
+    ensures some { 0 < result }
+    ensures few { result ≤ 64 }
+{
+    match t {
+        Elem::Bool => 1,
+        Elem::Sint | Elem::Usint | Elem::Byte => 8,
+        Elem::Int | Elem::Uint | Elem::Word => 16,
+        Elem::Dint | Elem::Udint | Elem::Dword => 32,
+        Elem::Lint | Elem::Ulint | Elem::Lword | Elem::Time => 64,
+    }
+}
+
+fn shr_bounds(width: u32, a: Interval, n: Interval) -> Interval
+    requires few { width ≤ 64 }
+    requires within { intervals.IsWithin a (bits.patterns width) }
+    ensures value { result ≡ rows.shr_row width a n }
+    ensures ordered { intervals.IsOrdered a }
+{
+    match (a.bounds(), n.bounds()) {
+        (Some((a, b)), Some((c, d))) => Interval::of(shr_of(width, a, d), shr_of(width, b, c)),
+        _ => Interval::empty(),
+    }
+}
+
+macro_rules! moved_bounds {
+    ($op:ident, $width:ident, $a:ident, $n:ident) => {
+        match ($a.bounds(), $n.bounds()) {
+            (Some((a, b)), Some((c, d))) => {
+                exact_or(a, b, c, d, $op($width, a, c), patterns($width))
+            },
+            _ => Interval::empty(),
+        }
+    };
+}
+
+fn shl_bounds(width: u32, a: Interval, n: Interval) -> Interval
+    requires few { width ≤ 64 }
+    requires within { intervals.IsWithin a (bits.patterns width) }
+    ensures value { result ≡ rows.shl_row width a n }
+    ensures ordered { intervals.IsOrdered a × intervals.IsOrdered n }
+{
+    moved_bounds!(shl_of, width, a, n)
+}
+
+fn rol_bounds(width: u32, a: Interval, n: Interval) -> Interval
+    requires some { 0 < width }
+    requires few { width ≤ 64 }
+    requires within { intervals.IsWithin a (bits.patterns width) }
+    ensures value { result ≡ rows.rol_row width a n }
+    ensures ordered { intervals.IsOrdered a × intervals.IsOrdered n }
+{
+    moved_bounds!(rol_of, width, a, n)
+}
+
+fn ror_bounds(width: u32, a: Interval, n: Interval) -> Interval
+    requires some { 0 < width }
+    requires few { width ≤ 64 }
+    requires within { intervals.IsWithin a (bits.patterns width) }
+    ensures value { result ≡ rows.ror_row width a n }
+    ensures ordered { intervals.IsOrdered a × intervals.IsOrdered n }
+{
+    moved_bounds!(ror_of, width, a, n)
+}
+
+fn patterns(width: u32) -> Interval
+    requires { width ≤ 64 }
+    ensures { result ≡ bits.patterns width }
+{
+    Interval::of(0, (power(width) - 1) as i128)
+}
+
+fn shl_of(width: u32, x: i128, n: i128) -> i128
+    requires few { width ≤ 64 }
+    requires low { pos 0 ≤ℤ x }
+    requires high { x ≤ℤ pos (2 ^ width - 1) }
+    ensures { result ≡ rows.shl_of width x n }
+{
+    (moved_up(x as u128, moved(width, n)) % power(width)) as i128
+}
+
+fn shr_of(width: u32, x: i128, n: i128) -> i128
+    requires few { width ≤ 64 }
+    requires low { pos 0 ≤ℤ x }
+    ensures { result ≡ rows.shr_of width x n }
+{
+    (x as u128 >> moved(width, n)) as i128
+}
+
+fn rol_of(width: u32, x: i128, n: i128) -> i128
+    requires some { 0 < width }
+    requires few { width ≤ 64 }
+    requires low { pos 0 ≤ℤ x }
+    requires high { x ≤ℤ pos (2 ^ width - 1) }
+    ensures { result ≡ rows.rol_of width x n }
+{
+    turned(width, x as u128, width - turns(width, n)) as i128
+}
+
+fn ror_of(width: u32, x: i128, n: i128) -> i128
+    requires some { 0 < width }
+    requires few { width ≤ 64 }
+    requires low { pos 0 ≤ℤ x }
+    requires high { x ≤ℤ pos (2 ^ width - 1) }
+    ensures { result ≡ rows.ror_of width x n }
+{
+    turned(width, x as u128, turns(width, n)) as i128
+}
+
+// The two parts of a word changed over: the lowest `place` bits, and those above.
+fn turned(width: u32, x: u128, place: u32) -> u128
+    requires few { width ≤ 64 }
+    requires place { place ≤ width }
+    requires pattern { x < 2 ^ width }
+    ensures value { result ≡ rows.turned width x place }
+    ensures pattern { result < 2 ^ width }
+    ensures word { result < 2 ^ 64 }
+{
+    moved_up(x % power(place), width - place) + (x >> place)
+}
+
+// The count moved into 0 to the width.
+fn moved(width: u32, n: i128) -> u32
+    ensures value { result ≡ rows.moved width n }
+    ensures few { result ≤ width }
+{
+    if n < 0 {
+        0
+    } else if n < width as i128 {
+        n as u32
+    } else {
+        width
+    }
+}
+
+// The count modulo the width.
+fn turns(width: u32, n: i128) -> u32
+    requires { 0 < width }
+    ensures value { result ≡ rows.turns width n }
+    ensures few { result < width }
+{
+    if n < 0 {
+        0
+    } else {
+        (n as u128 % width as u128) as u32
+    }
+}
+
+fn power(k: u32) -> u128
+    requires { k ≤ 64 }
+    ensures value { result ≡ 2 ^ k }
+    ensures bound { result ≤ 2 ^ 64 }
+    ensures some { 0 < result }
+{
+    1 << k
+}
+
+fn moved_up(x: u128, k: u32) -> u128
+    requires pattern { x < 2 ^ 64 }
+    requires few { k ≤ 64 }
+    ensures { result ≡ x * 2 ^ k }
+{
+    x << k
+}
