@@ -1,8 +1,13 @@
 -- What raising a table by all units gives, and what rounds of it keep.
+use Rattle.std.proofs.Common.{◌≢◌, nat_eq, get_or-set_same, get_or-set_other}
+use Rattle.std.specs.Prelude.{if◌then◌else◌, slice_set}
+use Rattle.std.proofs.lemmas.Bool.Decides.{nat_tests}
+use Rattle.std.proofs.Math.ListN.{length-set}
+use Rattle.interval_domain.specs.Interval.{Span}
 use Rattle.std.proofs.Common.{◌≡◌, ℕ, ◌+◌, ◌<◌, ◌≤◌, Bool, true, false, length, arith, refl, sym, subst, ap, ◌∙◌, ⊎_elim, replicate}
 use Rattle.std.specs.Prelude.{◌⊎◌}
 use Rattle.std.proofs.lemmas.List.{length-replicate, get_or_past}
-use Rattle.interval_domain.specs.Interval.{Interval, Empty, IsWithin}
+use Rattle.interval_domain.specs.Interval.{Interval, Empty, IsWithin, hull}
 use Rattle.least_table.specs.System.{Meaning, Intervals, at, AreWithin, IsOnGrid, AreOnGrid, IsTable, IsMonotone, IsClosed, IsLeast, weight}
 use Rattle.least_table.specs.Rounds.{Exceeds, IsJoined, IsRaised, IsRound}
 use Rattle.least_table.proofs.Within.{within_trans, within_hull_left, within_hull_right, hull_least, hull_on_grid, tables_refl, tables_trans, at_empties}
@@ -133,3 +138,32 @@ pub round_done : (m : Meaning) (old new next : Intervals) (grown : Bool) → IsB
 round_done m old new next true b e r = absurd (cc)
 round_done m old new next false b e r =
     (subst (λ (t : Intervals). IsLeast m t) (sym r.0) (below_closed m old next b r.1 r.2), subst (λ (t : Intervals). IsBelow m t) (sym r.0) b)
+
+-- ---- what a unit joins
+
+hull_empty : (i : Interval) → hull i Empty ≡ i
+hull_empty Empty = refl
+hull_empty (Span a b) = refl
+
+nat_eq_other : (k n : ℕ) → k ≢ n → nat_eq k n ≡ false
+nat_eq_other k n ne = grind (arith, nat_tests)
+
+nat_eq_same : (n : ℕ) → nat_eq n n ≡ true
+nat_eq_same n = grind (arith, nat_tests)
+
+-- a unit that gives something for one entry alone
+pub joined_one : (given : ℕ → Interval) (old new : Intervals) (to : ℕ) (i : Interval) → to < length old → ((entry : ℕ) → given entry ≡ (if nat_eq entry to then i else Empty))
+    → new ≡ slice_set old to (hull (at old to) i) → IsJoined given old new
+joined_one given old new to i h g e = rw e (record {
+  entries = length-set old to (hull (at old to) i);
+  each = λ entry l. ⊎_elim
+      (λ (s : entry ≡ to).
+      subst (λ (n : ℕ). at (slice_set old to (hull (at old to) i)) n ≡ hull (at old n) (given n)) (sym s)
+      (get_or-set_same old to (hull (at old to) i) Empty h
+      ∙ ap (λ (j : Interval). hull (at old to) j) (sym (g to ∙ ap (λ (b : Bool). if b then i else Empty) (nat_eq_same to)))))
+      (λ (ne : entry ≢ to).
+      get_or-set_other old to entry (hull (at old to) i) Empty ne
+      ∙ sym (hull_empty (at old entry))
+      ∙ ap (λ (j : Interval). hull (at old entry) j) (sym (g entry ∙ ap (λ (b : Bool). if b then i else Empty) (nat_eq_other entry to ne))))
+      (grind arith);
+})

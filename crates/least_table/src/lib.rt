@@ -4,6 +4,8 @@
 mod solver;
 mod system;
 mod table;
+#[cfg(test)]
+mod tests;
 
 pub use solver::least;
 pub use system::System;
