@@ -134,10 +134,13 @@ round_grown m old new next true law b e r =
       subst (λ (t : Intervals). weight m.grid old < weight m.grid t) (sym r.0) (round_heavier m old next low r.1 r.2),
     )
 
-pub round_done : (m : Meaning) (old new next : Intervals) (grown : Bool) → IsBelow m old → grown ≡ false → IsRound m old new next grown → IsLeast m new × IsBelow m new
-round_done m old new next true b e r = absurd (cc)
-round_done m old new next false b e r =
-    (subst (λ (t : Intervals). IsLeast m t) (sym r.0) (below_closed m old next b r.1 r.2), subst (λ (t : Intervals). IsBelow m t) (sym r.0) b)
+pub round_least : (m : Meaning) (old new next : Intervals) (grown : Bool) → IsBelow m old → grown ≡ false → IsRound m old new next grown → IsLeast m new
+round_least m old new next true b e r = absurd (cc)
+round_least m old new next false b e r = subst (λ (t : Intervals). IsLeast m t) (sym r.0) (below_closed m old next b r.1 r.2)
+
+pub round_on_grid : (m : Meaning) (old new next : Intervals) (grown : Bool) → IsBelow m old → grown ≡ false → IsRound m old new next grown → AreOnGrid m.grid new
+round_on_grid m old new next true b e r = absurd (cc)
+round_on_grid m old new next false b e r = subst (λ (t : Intervals). AreOnGrid m.grid t) (sym r.0) b.on_grid
 
 -- ---- what a unit joins
 

@@ -13,6 +13,7 @@ use std::sync::ledger::Ledger;
 
 /// The least table in which each entry holds what every unit gives for it. Two tables are held, and each round but the last copies one
 /// into the other.
+#[tactic(auto, using(crate::proofs::Raising::round_least, crate::proofs::Raising::round_on_grid))]
 pub fn least<S: System, L: Ledger>(
     alloc: Global,
     sys: &S,
