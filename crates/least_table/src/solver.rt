@@ -11,8 +11,8 @@ use station_ports::steps::Steps;
 use std::alloc::Global;
 use std::sync::ledger::Ledger;
 
-/// The least table in which each entry holds what every unit gives for it. Two tables are held, and each round but the last copies one
-/// into the other.
+/// The least table in which each entry holds what every unit gives for it. Takes two tables, and time in rounds: each raises by every unit and
+/// compares the tables once, and each but the last copies one into the other. An error is want of memory.
 #[tactic(auto, using(crate::proofs::Raising::round_least, crate::proofs::Raising::round_on_grid))]
 pub fn least<S: System, L: Ledger>(
     alloc: Global,

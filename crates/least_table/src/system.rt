@@ -11,7 +11,8 @@ use std::alloc::Global;
 use std::sync::ledger::Ledger;
 
 /// Units that give intervals for the entries of a table, each under the whole table. What a system means is on a grid, each entry has
-/// a widest interval, and under a larger table no unit gives less.
+/// a widest interval, and under a larger table no unit gives less. The law is of every value of the type: what it needs to know of one, as
+/// that its grid rises, stands in a ghost field.
 pub trait System {
     ghost meaning: { Self → Meaning };
 
