@@ -1,15 +1,11 @@
 -- What raising a table by all units gives, and what rounds of it keep.
-use Rattle.std.proofs.Common.{◌≢◌, nat_eq, get_or-set_same, get_or-set_other}
-use Rattle.std.specs.Prelude.{if◌then◌else◌, slice_set}
+use Rattle.std.proofs.Common.{◌≡◌, ◌≢◌, ℕ, ◌+◌, ◌<◌, ◌≤◌, Bool, true, false, nat_eq, length, arith, refl, sym, subst, ap, ◌∙◌, ⊎_elim, replicate, get_or-set_same, get_or-set_other}
+use Rattle.std.specs.Prelude.{◌⊎◌, if◌then◌else◌, slice_set}
+use Rattle.std.proofs.lemmas.List.{length-replicate, length-set, get_or_past}
 use Rattle.std.proofs.lemmas.Bool.Decides.{nat_tests}
-use Rattle.std.proofs.Math.ListN.{length-set}
-use Rattle.interval_domain.specs.Interval.{Span}
-use Rattle.std.proofs.Common.{◌≡◌, ℕ, ◌+◌, ◌<◌, ◌≤◌, Bool, true, false, length, arith, refl, sym, subst, ap, ◌∙◌, ⊎_elim, replicate}
-use Rattle.std.specs.Prelude.{◌⊎◌}
-use Rattle.std.proofs.lemmas.List.{length-replicate, get_or_past}
-use Rattle.interval_domain.specs.Interval.{Interval, Empty, IsWithin, hull}
-use Rattle.least_table.specs.System.{Meaning, Intervals, at, AreWithin, IsOnGrid, AreOnGrid, IsTable, IsMonotone, IsClosed, IsLeast, weight}
-use Rattle.least_table.specs.Rounds.{Exceeds, IsJoined, IsRaised, IsRound}
+use Rattle.interval_domain.specs.Interval.{Interval, Empty, Span, IsWithin, hull}
+use Rattle.least_table.specs.System.{Meaning, Intervals, at, AreWithin, IsOnGrid, AreOnGrid, IsJoined, IsTable, IsMonotone, IsClosed, IsLeast, weight}
+use Rattle.least_table.specs.Rounds.{Exceeds, IsRaised, IsRound}
 use Rattle.least_table.proofs.Within.{within_trans, within_hull_left, within_hull_right, hull_least, hull_on_grid, tables_refl, tables_trans, at_empties}
 use Rattle.least_table.proofs.Weights.{weight_le, weight_less}
 

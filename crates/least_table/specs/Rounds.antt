@@ -1,12 +1,7 @@
 -- Steps on the way from the code to the least table. Source: the code, which raises a second table by unit after unit.
 use Rattle.std.specs.Prelude.{◌≡◌, ℕ, ◌<◌, Bool, true, false, List, length, ◌≤ℤ◌}
-use Rattle.interval_domain.specs.Interval.{Interval, Empty, Span, IsWithin, hull}
+use Rattle.interval_domain.specs.Interval.{Interval, Empty, Span, IsWithin}
 use Rattle.least_table.specs.System.{Meaning, at, AreWithin, AreOnGrid, IsOnGrid}
-
--- as many entries as before, each joined with what is given for it
-pub record IsJoined (given : ℕ → Interval) (old new : List Interval) : Type 0 where
-  pub entries : length new ≡ length old
-  pub each : (entry : ℕ) → entry < length old → at new entry ≡ hull (at old entry) (given entry)
 
 -- the second table is the least one that holds the first and what the units below a number give under a table
 pub record IsRaised (m : Meaning) (table old new : List Interval) (units : ℕ) : Type 0 where

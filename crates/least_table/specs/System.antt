@@ -5,7 +5,7 @@ use Rattle.std.specs.Prelude.{◌≡◌, ℕ, ◌<◌, List, length, get_or, ℤ
 use Rattle.std.specs.List.{Contains, filter, sum_by}
 use Rattle.std.specs.List.Sorted.{IsStrictlySortedBy}
 use Rattle.std.specs.Ordering.{int_cmp}
-use Rattle.interval_domain.specs.Interval.{Interval, Empty, Span, IsWithin, holds}
+use Rattle.interval_domain.specs.Interval.{Interval, Empty, Span, IsWithin, hull, holds}
 
 -- a table as contracts see it: the intervals of its entries
 abbrev pub Intervals : Type 0
@@ -47,6 +47,11 @@ pub record IsMonotone (m : Meaning) : Type 0 where
   pub on_grid : (unit : ℕ) (table : List Interval) → unit < m.units → IsTable m table → (entry : ℕ) → entry < length m.widest → IsOnGrid m.grid (m.gives unit table entry)
   pub within : (unit : ℕ) (table : List Interval) → unit < m.units → IsTable m table → (entry : ℕ) → entry < length m.widest → IsWithin (m.gives unit table entry) (at m.widest entry)
   pub larger : (unit : ℕ) (table other : List Interval) → unit < m.units → IsTable m table → IsTable m other → AreWithin table other → (entry : ℕ) → entry < length m.widest → IsWithin (m.gives unit table entry) (m.gives unit other entry)
+
+-- as many entries as before, each joined with what is given for it
+pub record IsJoined (given : ℕ → Interval) (old new : List Interval) : Type 0 where
+  pub entries : length new ≡ length old
+  pub each : (entry : ℕ) → entry < length old → at new entry ≡ hull (at old entry) (given entry)
 
 -- each entry holds what every unit gives for it under this very table
 pub record IsClosed (m : Meaning) (table : List Interval) : Type 0 where

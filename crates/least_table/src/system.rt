@@ -1,8 +1,7 @@
 // Monotone systems over a finite grid.
 
 ghost use Rattle.std.specs.Prelude.{◌≡◌, ◌+◌, ◌<◌, OnOk, length};
-ghost use Rattle.least_table.specs.System.{Meaning, IsTable, IsMonotone};
-ghost use Rattle.least_table.specs.Rounds.{IsJoined};
+ghost use Rattle.least_table.specs.System.{Meaning, IsJoined, IsTable, IsMonotone};
 
 use crate::table::Table;
 use station_ports::outside::NoMemory;

@@ -1,10 +1,8 @@
-use Rattle.std.proofs.Common.{◌≡◌, arith, rules, refl, ap, ◌∙◌, get_or, None, pos, FitsSigned}
+use Rattle.std.proofs.Common.{◌≡◌, arith, rules, refl, ap, ◌∙◌, get_or, slice_set, None, ℤ, pos, FitsSigned}
 use Rattle.std.proofs.lemmas.Int.{to_z-of_z}
 use Rattle.std.proofs.lemmas.List.{length-replicate}
 use mir.Syntax.{w128}
-use Rattle.std.specs.Prelude.{ℤ}
 use Rattle.interval_domain.specs.Interval.{Interval, hull}
-use Rattle.std.proofs.Common.{slice_set}
 use Rattle.least_table.specs.System.{at}
 use Rattle.least_table.specs.Graph.{Arc, all_numbers, graph, moved, source}
 use Rattle.least_table.proofs.Raising.{joined_one}
