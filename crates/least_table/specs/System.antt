@@ -1,0 +1,72 @@
+-- Systems over a finite grid, their closed tables and the least of them. Source: interval analysis, in which the least fixpoint of a
+-- monotone operator is the least table that holds what the operator gives for it. The code goes round until nothing grows; here no unit
+-- comes before another and nothing is done again.
+use Rattle.std.specs.Prelude.{◌≡◌, ℕ, ◌<◌, List, length, get_or, ℤ}
+use Rattle.std.specs.List.{Contains, filter, sum_by}
+use Rattle.std.specs.List.Sorted.{IsStrictlySortedBy}
+use Rattle.std.specs.Ordering.{int_cmp}
+use Rattle.interval_domain.specs.Interval.{Interval, Empty, Span, IsWithin, hull, holds}
+
+-- a table as contracts see it: the intervals of its entries
+abbrev pub Intervals : Type 0
+Intervals = List Interval
+
+-- What a system means: its grid, the widest interval of each entry, how many units it has, and what a unit gives under a table for an entry.
+pub record Meaning : Type 0 where
+  pub grid : List ℤ
+  pub widest : List Interval
+  pub units : ℕ
+  pub gives : ℕ → List Interval → ℕ → Interval
+
+-- the interval of an entry, empty where there is no such entry
+abbrev pub at : List Interval → ℕ → Interval
+at table entry = get_or table entry Empty
+
+-- each entry of the first table lies in that of the second
+abbrev pub AreWithin : List Interval → List Interval → Type 0
+AreWithin table other = (entry : ℕ) → IsWithin (at table entry) (at other entry)
+
+-- it is empty, or its bounds are numbers of the grid
+abbrev pub IsOnGrid : List ℤ → Interval → Type 0
+IsOnGrid grid Empty = Unit {0}
+IsOnGrid grid (Span low high) = Contains grid low × Contains grid high
+
+abbrev pub AreOnGrid : List ℤ → List Interval → Type 0
+AreOnGrid grid table = (entry : ℕ) → IsOnGrid grid (at table entry)
+
+-- a table of the system: an interval for each entry, in its widest one
+pub record IsTable (m : Meaning) (table : List Interval) : Type 0 where
+  pub entries : length table ≡ length m.widest
+  pub within : AreWithin table m.widest
+
+-- The law of a system. The grid rises, the widest intervals are on it, and so is what a unit gives under a table, which lies in the widest
+-- interval; and under a larger table no unit gives less.
+pub record IsMonotone (m : Meaning) : Type 0 where
+  pub rising : IsStrictlySortedBy int_cmp m.grid
+  pub widest_on_grid : AreOnGrid m.grid m.widest
+  pub on_grid : (unit : ℕ) (table : List Interval) → unit < m.units → IsTable m table → (entry : ℕ) → entry < length m.widest → IsOnGrid m.grid (m.gives unit table entry)
+  pub within : (unit : ℕ) (table : List Interval) → unit < m.units → IsTable m table → (entry : ℕ) → entry < length m.widest → IsWithin (m.gives unit table entry) (at m.widest entry)
+  pub larger : (unit : ℕ) (table other : List Interval) → unit < m.units → IsTable m table → IsTable m other → AreWithin table other → (entry : ℕ) → entry < length m.widest → IsWithin (m.gives unit table entry) (m.gives unit other entry)
+
+-- as many entries as before, each joined with what is given for it
+pub record IsJoined (given : ℕ → Interval) (old new : List Interval) : Type 0 where
+  pub entries : length new ≡ length old
+  pub each : (entry : ℕ) → entry < length old → at new entry ≡ hull (at old entry) (given entry)
+
+-- each entry holds what every unit gives for it under this very table
+pub record IsClosed (m : Meaning) (table : List Interval) : Type 0 where
+  pub is_table : IsTable m table
+  pub holds : (unit : ℕ) → unit < m.units → (entry : ℕ) → entry < length m.widest → IsWithin (m.gives unit table entry) (at table entry)
+
+-- closed, and within each closed table
+pub record IsLeast (m : Meaning) (table : List Interval) : Type 0 where
+  pub closed : IsClosed m table
+  pub least : (other : List Interval) → IsClosed m other → AreWithin table other
+
+-- how many numbers of the grid the interval holds
+abbrev pub numbers_in : List ℤ → Interval → ℕ
+numbers_in grid i = length (filter (holds i) grid)
+
+-- how many numbers of the grid the entries of a table hold, in all
+abbrev pub weight : List ℤ → List Interval → ℕ
+weight grid table = sum_by (numbers_in grid) table
