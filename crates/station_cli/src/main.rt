@@ -9,6 +9,8 @@ pub mod run;
 pub mod status;
 #[cfg(test)]
 mod tests;
+#[cfg(test)]
+mod token_tests;
 pub mod words;
 
 use station_ports::os::{OsFiles, OsOut};

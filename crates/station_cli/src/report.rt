@@ -14,12 +14,12 @@ use cycle_analysis::{Solution, solve};
 use finding_spans::{
     Alarm, AlarmCount, Entry, RangeLine, Refusal, Report, Verdict, line_of, place, statement_of,
 };
+use iec_tables::fault::FaultCode;
 use interval_domain::grid::Grid;
 use interval_domain::interval::Interval;
 use sqlite_items::Items;
 use st_expr::{ParseFault, first_form, tree_laws};
 use st_lexer::{LexFault, cut_laws, tokens};
-use iec_tables::fault::FaultCode;
 use st_tree::{CellInfo, Component, Hit, NodeNo, SourceTree, Stmt};
 use station_ports::outside::NoMemory;
 use station_ports::steps::Steps;

@@ -121,7 +121,17 @@ struct Row {
 }
 
 /// Texts of the first form.
-const ANALYSED: [Row; 13] = [
+const ANALYSED: [Row; 15] = [
+    Row {
+        text: "(* x *) PROGRAM P // a\n{b} END_PROGRAM /* /* */ */",
+        status: Status::Clean,
+        output: "VERDICT FREE\nEND open 0 waived 0\n",
+    },
+    Row {
+        text: "\u{feff}PROGRAM P VAR a : INT; END_VAR a := - (* - *) 5; END_PROGRAM",
+        status: Status::Clean,
+        output: "VERDICT FREE\nRANGE MAIN.A -5..0\nEND open 0 waived 0\n",
+    },
     Row {
         text: "PROGRAM P\nVAR a, b : INT; END_VAR\na := 5; b := a - 7;\nEND_PROGRAM\n",
         status: Status::Clean,
@@ -199,87 +209,167 @@ const ANALYSED: [Row; 13] = [
 ];
 
 /// Texts that stop being of the first form, and where.
-const REFUSED: [(&str, &str); 35] = [
-    ("", "1:1"),
+const REFUSED: [(&str, &str, &str); 44] = [
+    ("", "1:1", "8 NotBuilt"),
     (
         "PROGRAM P\nVAR n : INT; END_VAR\nIF n < 100 THEN n := n + 1; END_IF;\nEND_PROGRAM\n",
         "3:1",
+        "8 NotBuilt",
     ),
-    ("PROGRAM IF END_PROGRAM", "1:9"),
-    ("PROGRAM P", "1:10"),
-    ("PROGRAM P END_PROGRAM PROGRAM", "1:23"),
-    ("PROGRAM P VAR n, N : INT; END_VAR END_PROGRAM", "1:18"),
+    ("PROGRAM IF END_PROGRAM", "1:9", "8 NotBuilt"),
+    ("PROGRAM P", "1:10", "8 NotBuilt"),
+    ("PROGRAM P END_PROGRAM PROGRAM", "1:23", "8 NotBuilt"),
+    (
+        "PROGRAM P VAR n, N : INT; END_VAR END_PROGRAM",
+        "1:18",
+        "8 NotBuilt",
+    ),
     (
         "PROGRAM P VAR n : INT; m, n : INT; END_VAR END_PROGRAM",
         "1:27",
+        "8 NotBuilt",
     ),
-    ("PROGRAM P VAR n : SINT; END_VAR END_PROGRAM", "1:19"),
-    ("PROGRAM P VAR n : INT END_VAR END_PROGRAM", "1:23"),
+    (
+        "PROGRAM P VAR n : SINT; END_VAR END_PROGRAM",
+        "1:19",
+        "8 NotBuilt",
+    ),
+    (
+        "PROGRAM P VAR n : INT END_VAR END_PROGRAM",
+        "1:23",
+        "8 NotBuilt",
+    ),
     (
         "PROGRAM P VAR n : INT; END_VAR VAR m : INT; END_VAR END_PROGRAM",
         "1:32",
+        "8 NotBuilt",
     ),
-    ("PROGRAM P VAR n : INT; END_VAR\nm := 1; END_PROGRAM", "2:1"),
-    ("PROGRAM P VAR n : INT; END_VAR\nn := m; END_PROGRAM", "2:6"),
+    (
+        "PROGRAM P VAR n : INT; END_VAR\nm := 1; END_PROGRAM",
+        "2:1",
+        "8 NotBuilt",
+    ),
+    (
+        "PROGRAM P VAR n : INT; END_VAR\nn := m; END_PROGRAM",
+        "2:6",
+        "8 NotBuilt",
+    ),
     (
         "PROGRAM P VAR n : INT; END_VAR\nn := 32768; END_PROGRAM",
         "2:6",
+        "8 NotBuilt",
     ),
     (
         "PROGRAM P VAR n : INT; END_VAR\nn := -32768; END_PROGRAM",
         "2:7",
+        "8 NotBuilt",
     ),
     (
         "PROGRAM P VAR n : INT; END_VAR\nn := 5a; END_PROGRAM",
         "2:6",
+        "4 BadNumber",
     ),
     (
         "PROGRAM P VAR n : INT; END_VAR\nn := 5.; END_PROGRAM",
         "2:6",
+        "8 NotBuilt",
     ),
     (
         "PROGRAM P VAR n : INT; END_VAR\nn := 1_000; END_PROGRAM",
         "2:6",
+        "8 NotBuilt",
     ),
     (
         "PROGRAM P VAR n : INT; END_VAR\nn := - - 5; END_PROGRAM",
         "2:8",
+        "8 NotBuilt",
     ),
     (
         "PROGRAM P VAR n : INT; END_VAR\nn := n + ; END_PROGRAM",
         "2:10",
+        "8 NotBuilt",
     ),
     (
         "PROGRAM P VAR n : INT; END_VAR\nn := 1 n; END_PROGRAM",
         "2:8",
+        "8 NotBuilt",
     ),
-    ("PROGRAM P VAR a__b : INT; END_VAR END_PROGRAM", "1:15"),
+    (
+        "PROGRAM P VAR a__b : INT; END_VAR END_PROGRAM",
+        "1:15",
+        "5 BadName",
+    ),
     (
         "PROGRAM P VAR a : INT; END_VAR\n\n  \u{e9} END_PROGRAM",
         "3:3",
+        "2 BadByte",
     ),
-    ("PROGRAM _ END_PROGRAM", "1:9"),
-    ("PROGRAM a_ END_PROGRAM", "1:9"),
-    ("PROGRAM P; END_PROGRAM", "1:10"),
-    ("PROGRAM P a := 1; VAR a : INT; END_VAR END_PROGRAM", "1:11"),
-    ("PROGRAM P VAR a, : INT; END_VAR END_PROGRAM", "1:18"),
-    ("PROGRAM P VAR : INT; END_VAR END_PROGRAM", "1:15"),
-    ("PROGRAM P VAR a : INT; END_VAR a = 1; END_PROGRAM", "1:34"),
+    ("PROGRAM _ END_PROGRAM", "1:9", "5 BadName"),
+    ("PROGRAM a_ END_PROGRAM", "1:9", "5 BadName"),
+    ("PROGRAM P; END_PROGRAM", "1:10", "8 NotBuilt"),
+    (
+        "PROGRAM P a := 1; VAR a : INT; END_VAR END_PROGRAM",
+        "1:11",
+        "8 NotBuilt",
+    ),
+    (
+        "PROGRAM P VAR a, : INT; END_VAR END_PROGRAM",
+        "1:18",
+        "8 NotBuilt",
+    ),
+    (
+        "PROGRAM P VAR : INT; END_VAR END_PROGRAM",
+        "1:15",
+        "8 NotBuilt",
+    ),
+    (
+        "PROGRAM P VAR a : INT; END_VAR a = 1; END_PROGRAM",
+        "1:34",
+        "8 NotBuilt",
+    ),
     (
         "PROGRAM P VAR a : INT; END_VAR a := (1); END_PROGRAM",
         "1:37",
+        "8 NotBuilt",
     ),
     (
         "PROGRAM P VAR a : INT; END_VAR a := -a; END_PROGRAM",
         "1:38",
+        "8 NotBuilt",
     ),
     (
         "PROGRAM P VAR a : INT; END_VAR a := 16#F; END_PROGRAM",
         "1:37",
+        "8 NotBuilt",
     ),
-    ("PROGRAM P VAR a : INT; END_VAR a := 1;", "1:39"),
-    ("(* x *) PROGRAM P END_PROGRAM", "1:1"),
-    ("PROGRAM P END_PROGRAM;", "1:22"),
+    (
+        "PROGRAM P VAR a : INT; END_VAR a := 1;",
+        "1:39",
+        "8 NotBuilt",
+    ),
+    ("PROGRAM P END_PROGRAM;", "1:22", "8 NotBuilt"),
+    ("PROGRAM P (* x *) ; END_PROGRAM", "1:19", "8 NotBuilt"),
+    ("(* x *) {y} // z\nEND_PROGRAM", "2:1", "8 NotBuilt"),
+    (
+        "PROGRAM P VAR a : INT; END_VAR a := 3#1; END_PROGRAM",
+        "1:37",
+        "8 NotBuilt",
+    ),
+    (
+        "PROGRAM P VAR a : INT; END_VAR a := INT#1; END_PROGRAM",
+        "1:37",
+        "8 NotBuilt",
+    ),
+    ("x__y", "1:1", "5 BadName"),
+    (" T#1d2d", "1:2", "4 BadNumber"),
+    ("16#G", "1:1", "4 BadNumber"),
+    ("~", "1:1", "2 BadByte"),
+    ("{ x", "1:1", "3 OpenComment"),
+    (
+        "PROGRAM P\n\n  (* (* *) END_PROGRAM",
+        "3:3",
+        "3 OpenComment",
+    ),
 ];
 
 #[test]
@@ -299,10 +389,10 @@ fn analysed_texts(rt: HostRuntime) -> Result<(), Fail> {
 
 #[test]
 fn refused_texts(rt: HostRuntime) -> Result<(), Fail> {
-    for (text, place) in &REFUSED {
+    for (text, place, fault) in &REFUSED {
         let found = result_over(&rt, &CHECK, text.as_bytes(), &[], &[])?;
         let output = format!(in rt.alloc();
-            "VERDICT REFUSED a.st:{place} 8 NotBuilt\nEND open 0 waived 0\n"
+            "VERDICT REFUSED a.st:{place} {fault}\nEND open 0 waived 0\n"
         )?;
         assert_eq!(rt; found.status, Status::Refused, "{text}");
         assert_eq!(rt; found.output.as_slice(), output.as_bytes(), "{text}");

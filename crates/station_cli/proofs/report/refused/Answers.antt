@@ -15,7 +15,7 @@ returns c fault within =
       column = position.column;
       fault = fault;
       position = subst (λ (bytes : List ℕ). IsPosition bytes c.args.fault.at position.line position.column) same
-      (subst (λ (a : ℕ). IsPosition c.bytes-bytes.result.now a position.line position.column) at c.line_of-position.ensures);
+          (subst (λ (a : ℕ). IsPosition c.bytes-bytes.result.now a position.line position.column) at c.line_of-position.ensures);
       verdict_is = ap (λ (file : List ℕ). verdict.Refused (record { file = file; line = position.line; column = position.column; code = c.args.fault.code })) (c.in_ok-name_of.ensures ∙ c.as_bytes.ensures.value);
       counted = search rules;
       waived = refl;
