@@ -10,6 +10,7 @@ use Rattle.interval_domain.specs.Operators.{kept, range_of, typed}
 use Rattle.interval_domain.specs.Grid.{rounded}
 use Rattle.interval_domain.proofs.Laws.{meet-holds, kept-typed, held-add, held-sub, range-kept}
 use Rattle.interval_domain.proofs.Rounding.{rounded-wider}
+use Rattle.interval_domain.proofs.Within.{within_refl, within_trans, within_hull_left, within_hull_right}
 use Rattle.st_tree.specs.declared.code.CellInfo.{CellInfo}
 use Rattle.st_tree.specs.declared.tree.Operator.{Operator}
 use Rattle.st_tree.specs.declared.tree.Operator.TheVariants.{Add, Subtract}
@@ -21,26 +22,6 @@ pub within_holds : (i j : Interval) (v : ℤ) → IsWithin i j → Holds i v →
 within_holds Empty j v w h = absurd h
 within_holds (Span a b) Empty v w h = w
 within_holds (Span a b) (Span c d) v w h = (omega (arith, ints), omega (arith, ints))
-
-pub within_refl : (i : Interval) → IsWithin i i
-within_refl Empty = tt
-within_refl (Span a b) = (omega (arith, ints), omega (arith, ints))
-
-pub within_trans : (i j k : Interval) → IsWithin i j → IsWithin j k → IsWithin i k
-within_trans Empty j k p q = tt
-within_trans (Span a b) Empty k p q = absurd p
-within_trans (Span a b) (Span c d) Empty p q = q
-within_trans (Span a b) (Span c d) (Span e f) p q = (omega (arith, ints), omega (arith, ints))
-
-pub within_hull_left : (i j : Interval) → IsWithin i (hull i j)
-within_hull_left Empty j = tt
-within_hull_left (Span a b) Empty = (omega (arith, ints), omega (arith, ints))
-within_hull_left (Span a b) (Span c d) = (omega (arith, ints, clamps), omega (arith, ints, clamps))
-
-pub within_hull_right : (i j : Interval) → IsWithin j (hull i j)
-within_hull_right Empty j = within_refl j
-within_hull_right (Span a b) Empty = tt
-within_hull_right (Span a b) (Span c d) = (omega (arith, ints, clamps), omega (arith, ints, clamps))
 
 pub holds_is : (i : Interval) (v : ℤ) → holds i v ≡ true → Holds i v
 holds_is Empty v e = absurd (grind arith)

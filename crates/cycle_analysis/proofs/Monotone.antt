@@ -22,7 +22,8 @@ use Rattle.cycle_analysis.specs.Pass.{State, Unreachable, Reached, Entry, Wrote,
 use Rattle.cycle_analysis.specs.Table.{Part, InPart, Each}
 use Rattle.cycle_analysis.specs.Fill.{Kept, noted, all_noted}
 use Rattle.cycle_analysis.proofs.Rows.{at_empties}
-use Rattle.cycle_analysis.proofs.Intervals.{within_refl, within_trans, within_hull_left, within_hull_right, at-put_same, length-put}
+use Rattle.interval_domain.proofs.Within.{within_refl, within_trans, within_hull_left, within_hull_right, hull_least}
+use Rattle.cycle_analysis.proofs.Intervals.{at-put_same, length-put}
 
 pub span_mono : (a b c d : ℤ) → c ≤ℤ a → b ≤ℤ d → IsWithin (span a b) (span c d)
 span_mono a b c d p q = go (int_le a b) refl (int_le c d) refl
@@ -38,12 +39,6 @@ hull_mono (Span a b) Empty k l p q = within_trans (Span a b) k (hull k l) p (wit
 hull_mono (Span a b) (Span c d) Empty l p q = absurd p
 hull_mono (Span a b) (Span c d) (Span e f) Empty p q = absurd q
 hull_mono (Span a b) (Span c d) (Span e f) (Span g h) p q = (omega (arith, ints, clamps), omega (arith, ints, clamps))
-
-pub hull_least : (i j k : Interval) → IsWithin i k → IsWithin j k → IsWithin (hull i j) k
-hull_least Empty j k p q = q
-hull_least (Span a b) Empty k p q = p
-hull_least (Span a b) (Span c d) Empty p q = absurd p
-hull_least (Span a b) (Span c d) (Span e f) p q = (omega (arith, ints, clamps), omega (arith, ints, clamps))
 
 meet_mono : (i j k l : Interval) → IsWithin i k → IsWithin j l → IsWithin (meet i j) (meet k l)
 meet_mono Empty j k l p q = tt

@@ -33,9 +33,9 @@ use Rattle.cycle_analysis.specs.Rows.{AreAll, joined, raised, rooms}
 use Rattle.cycle_analysis.specs.Table.{Head, Part, IsBelow, points}
 use Rattle.cycle_analysis.specs.Solved.{alarms_of, pass_from, blank_of, head_of, table_of, IsStable, IsRaisedFrom, IsLeastHead, IsRound, IsRounded, IsSolved}
 use Rattle.cycle_analysis.proofs.Lists.{length_map}
-use Rattle.cycle_analysis.proofs.Intervals.{within_refl, within_trans, within_hull_left, within_hull_right}
+use Rattle.interval_domain.proofs.Within.{within_refl, within_trans, within_hull_left, within_hull_right, hull_least}
 use Rattle.cycle_analysis.proofs.Rows.{at_past, at_empties}
-use Rattle.cycle_analysis.proofs.Monotone.{Lies, Has, hull_least, pass_mono, pass_has, blank, kept_has, IsThere, KeptIn, kept_in, blank_in, log_in}
+use Rattle.cycle_analysis.proofs.Monotone.{Lies, Has, pass_mono, pass_has, blank, kept_has, IsThere, KeptIn, kept_in, blank_in, log_in}
 
 -- ---- what raising a row gives
 

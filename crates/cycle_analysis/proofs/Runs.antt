@@ -16,7 +16,8 @@ use Rattle.task_meaning.specs.Meaning.{State as Whole, TaskState, Numbers, Writt
 use Rattle.cycle_analysis.specs.declared.task_pass.Value.{Value}
 use Rattle.cycle_analysis.specs.Pass.{State, Unreachable, Reached, Entry, Wrote, Alarm, at}
 use Rattle.cycle_analysis.specs.Table.{Part, part_at, all_writes, others, pass_of, InPart, Each, points, IsClosed, IsAlarmed, own_range, shared_range, InRanges, IsCovered, Theorem, HasNoAlarm, GoesOn, Theorem_free}
-use Rattle.cycle_analysis.proofs.Intervals.{within_holds, within_refl, within_hull_left, within_hull_right, rounded_within, writes_all, writes_others, at_points, below_leads}
+use Rattle.interval_domain.proofs.Within.{within_refl, within_hull_left, within_hull_right}
+use Rattle.cycle_analysis.proofs.Intervals.{within_holds, rounded_within, writes_all, writes_others, at_points, below_leads}
 use Rattle.cycle_analysis.proofs.Lists.{got_set, length_set, got_map, length_map, contains_one}
 use Rattle.cycle_analysis.proofs.Invariant.{is_mine, Seen, ViewFit, FitAt, Allowed, Accepts, Covers, Holds_of, Invariant}
 use Rattle.cycle_analysis.proofs.Steps.{IsGood, step_good}

@@ -13,3 +13,4 @@ pub mod Sets
 pub mod Signs
 pub mod Tests
 pub mod Turning
+pub mod Within

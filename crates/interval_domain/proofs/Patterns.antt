@@ -13,7 +13,8 @@ use Rattle.iec_tables.specs.declared.elem.Elem.{Elem}
 use Rattle.iec_tables.specs.declared.elem.Elem.TheVariants.{Sint, Int, Dint, Lint, Usint, Uint, Udint, Ulint, Bool as Truth, Byte, Word, Dword, Lword, Time}
 use Rattle.interval_domain.specs.Interval.{Interval, Empty, Span, Holds, IsWithin, IsOrdered, span}
 use Rattle.interval_domain.specs.Selection.{HoldsAll}
-use Rattle.interval_domain.specs.Bits.{width_of, all_ones, bits_range, words, and_of, or_of, xor_of, not_of, exact_or, digits, ones_above, IsOnesAbove, and_row, or_row, xor_row, mirrored, not_row, IsLeastOfAll, MeetsBitLaws, MeetsNotLaws}
+use Rattle.iec_tables.specs.Types.{width_of}
+use Rattle.interval_domain.specs.Bits.{all_ones, bits_range, words, and_of, or_of, xor_of, not_of, exact_or, digits, ones_above, IsOnesAbove, and_row, or_row, xor_row, mirrored, not_row, IsLeastOfAll, MeetsBitLaws, MeetsNotLaws}
 use Rattle.interval_domain.specs.Stored.{span-ordered}
 use Rattle.interval_domain.proofs.Laws.{span-holds, span-within}
 use Rattle.interval_domain.proofs.Between.{holds-within}

@@ -4,26 +4,9 @@ use Rattle.std.specs.Prelude.{◌≡◌, ℕ, zero, suc, ◌-◌, ◌/◌, ◌^�
 use Rattle.std.specs.Int.{int_max, int_min}
 use Rattle.std.specs.Ordering.{int_eq}
 use Rattle.iec_tables.specs.declared.elem.Elem.{Elem}
-use Rattle.iec_tables.specs.declared.elem.Elem.TheVariants.{Sint, Int, Dint, Lint, Usint, Uint, Udint, Ulint, Bool, Byte, Word, Dword, Lword, Time}
+use Rattle.iec_tables.specs.Types.{width_of}
 use Rattle.interval_domain.specs.Interval.{Interval, Empty, Span, Holds, IsWithin, span}
 use Rattle.interval_domain.specs.Selection.{HoldsAll}
-
--- how many bits a type has
-abbrev pub width_of : Elem → ℕ
-width_of Sint = 8
-width_of Int = 16
-width_of Dint = 32
-width_of Lint = 64
-width_of Usint = 8
-width_of Uint = 16
-width_of Udint = 32
-width_of Ulint = 64
-width_of Bool = 1
-width_of Byte = 8
-width_of Word = 16
-width_of Dword = 32
-width_of Lword = 64
-width_of Time = 64
 
 -- the number whose bits are all 1
 abbrev pub all_ones : Elem → ℤ

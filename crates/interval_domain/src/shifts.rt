@@ -1,5 +1,6 @@
 // Shifts and rotations of intervals of bit patterns.
 ghost use Rattle.std.specs.Prelude.{◌≡◌, ◌<◌, ◌≤◌, ◌-◌, ◌*◌, ◌^◌, pos, ◌≤ℤ◌};
+ghost use Rattle.iec_tables.specs.Types as types;
 ghost use Rattle.interval_domain.specs.Interval as intervals;
 ghost use Rattle.interval_domain.specs.Bits as bits;
 ghost use Rattle.interval_domain.specs.Shifts as rows;
@@ -12,9 +13,9 @@ use iec_tables::elem::Elem;
 /// The patterns moved up by the counts. The first operand is of patterns of the type: for a bit string, numbers in its range.
 pub fn shl(t: Elem, a: Interval, n: Interval) -> Out
     requires { intervals.IsWithin a (bits.bits_range t) }
-    ensures raw { result.raw ≡ rows.shl_row (bits.width_of t) a n }
-    ensures result { result.result ≡ rows.shl_row (bits.width_of t) a n }
-    ensures laws { rows.MeetsShiftLaws rows.shl_of rows.shl_row (bits.width_of t) a n result.result }
+    ensures raw { result.raw ≡ rows.shl_row (types.width_of t) a n }
+    ensures result { result.result ≡ rows.shl_row (types.width_of t) a n }
+    ensures laws { rows.MeetsShiftLaws rows.shl_of rows.shl_row (types.width_of t) a n result.result }
 {
     plain(shl_bounds(width(t), a, n))
 }
@@ -22,9 +23,9 @@ pub fn shl(t: Elem, a: Interval, n: Interval) -> Out
 /// The patterns moved down by the counts. The first operand is of patterns of the type: for a bit string, numbers in its range.
 pub fn shr(t: Elem, a: Interval, n: Interval) -> Out
     requires { intervals.IsWithin a (bits.bits_range t) }
-    ensures raw { result.raw ≡ rows.shr_row (bits.width_of t) a n }
-    ensures result { result.result ≡ rows.shr_row (bits.width_of t) a n }
-    ensures laws { rows.MeetsShiftLaws rows.shr_of rows.shr_row (bits.width_of t) a n result.result }
+    ensures raw { result.raw ≡ rows.shr_row (types.width_of t) a n }
+    ensures result { result.result ≡ rows.shr_row (types.width_of t) a n }
+    ensures laws { rows.MeetsShiftLaws rows.shr_of rows.shr_row (types.width_of t) a n result.result }
 {
     plain(shr_bounds(width(t), a, n))
 }
@@ -32,9 +33,9 @@ pub fn shr(t: Elem, a: Interval, n: Interval) -> Out
 /// The patterns turned up by the counts. The first operand is of patterns of the type: for a bit string, numbers in its range.
 pub fn rol(t: Elem, a: Interval, n: Interval) -> Out
     requires { intervals.IsWithin a (bits.bits_range t) }
-    ensures raw { result.raw ≡ rows.rol_row (bits.width_of t) a n }
-    ensures result { result.result ≡ rows.rol_row (bits.width_of t) a n }
-    ensures laws { rows.MeetsShiftLaws rows.rol_of rows.rol_row (bits.width_of t) a n result.result }
+    ensures raw { result.raw ≡ rows.rol_row (types.width_of t) a n }
+    ensures result { result.result ≡ rows.rol_row (types.width_of t) a n }
+    ensures laws { rows.MeetsShiftLaws rows.rol_of rows.rol_row (types.width_of t) a n result.result }
 {
     plain(rol_bounds(width(t), a, n))
 }
@@ -43,16 +44,16 @@ pub fn rol(t: Elem, a: Interval, n: Interval) -> Out
 /// range.
 pub fn ror(t: Elem, a: Interval, n: Interval) -> Out
     requires { intervals.IsWithin a (bits.bits_range t) }
-    ensures raw { result.raw ≡ rows.ror_row (bits.width_of t) a n }
-    ensures result { result.result ≡ rows.ror_row (bits.width_of t) a n }
-    ensures laws { rows.MeetsShiftLaws rows.ror_of rows.ror_row (bits.width_of t) a n result.result }
+    ensures raw { result.raw ≡ rows.ror_row (types.width_of t) a n }
+    ensures result { result.result ≡ rows.ror_row (types.width_of t) a n }
+    ensures laws { rows.MeetsShiftLaws rows.ror_of rows.ror_row (types.width_of t) a n result.result }
 {
     plain(ror_bounds(width(t), a, n))
 }
 
 /// How many bits a type has.
 pub fn width(t: Elem) -> u32
-    ensures value { result ≡ bits.width_of t }
+    ensures value { result ≡ types.width_of t }
     ensures some { 0 < result }
     ensures few { result ≤ 64 }
 {

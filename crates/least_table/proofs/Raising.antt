@@ -6,7 +6,8 @@ use Rattle.std.proofs.lemmas.Bool.Decides.{nat_tests}
 use Rattle.interval_domain.specs.Interval.{Interval, Empty, Span, IsWithin, hull}
 use Rattle.least_table.specs.System.{Meaning, Intervals, at, AreWithin, IsOnGrid, AreOnGrid, IsJoined, IsTable, IsMonotone, IsClosed, IsLeast, weight}
 use Rattle.least_table.specs.Rounds.{Exceeds, IsRaised, IsRound}
-use Rattle.least_table.proofs.Within.{within_trans, within_hull_left, within_hull_right, hull_least, hull_on_grid, tables_refl, tables_trans, at_empties}
+use Rattle.interval_domain.proofs.Within.{within_trans, within_hull_left, within_hull_right, hull_least}
+use Rattle.least_table.proofs.Within.{hull_on_grid, tables_refl, tables_trans, at_empties}
 use Rattle.least_table.proofs.Weights.{weight_le, weight_less}
 
 inside : (k n : ℕ) → (k < n) ⊎ (n ≤ k)

@@ -1,37 +1,12 @@
--- Laws of intervals that lie within one another, and of their hulls.
+-- Hulls on the grid, and tables that lie within one another.
 use Rattle.std.proofs.Common.{ℕ, zero, suc, ◌≡◌, Bool, true, false, cond, List, arith, refl, replicate}
 use Rattle.std.specs.Prelude.{ℤ}
 use Rattle.std.specs.Prelude.{int_lt}
 use Rattle.std.specs.List.{Contains}
 use Rattle.std.proofs.lemmas.Int.{ints, clamps}
 use Rattle.interval_domain.specs.Interval.{Interval, Empty, Span, IsWithin, hull}
+use Rattle.interval_domain.proofs.Within.{within_refl, within_trans}
 use Rattle.least_table.specs.System.{Intervals, at, AreWithin, IsOnGrid}
-
-pub within_refl : (i : Interval) → IsWithin i i
-within_refl Empty = tt
-within_refl (Span a b) = (omega (arith, ints), omega (arith, ints))
-
-pub within_trans : (i j k : Interval) → IsWithin i j → IsWithin j k → IsWithin i k
-within_trans Empty j k p q = tt
-within_trans (Span a b) Empty k p q = absurd p
-within_trans (Span a b) (Span c d) Empty p q = q
-within_trans (Span a b) (Span c d) (Span e f) p q = (omega (arith, ints), omega (arith, ints))
-
-pub within_hull_left : (i j : Interval) → IsWithin i (hull i j)
-within_hull_left Empty j = tt
-within_hull_left (Span a b) Empty = (omega (arith, ints), omega (arith, ints))
-within_hull_left (Span a b) (Span c d) = (omega (arith, ints, clamps), omega (arith, ints, clamps))
-
-pub within_hull_right : (i j : Interval) → IsWithin j (hull i j)
-within_hull_right Empty j = within_refl j
-within_hull_right (Span a b) Empty = tt
-within_hull_right (Span a b) (Span c d) = (omega (arith, ints, clamps), omega (arith, ints, clamps))
-
-pub hull_least : (i j k : Interval) → IsWithin i k → IsWithin j k → IsWithin (hull i j) k
-hull_least Empty j k p q = q
-hull_least (Span a b) Empty k p q = p
-hull_least (Span a b) (Span c d) Empty p q = absurd p
-hull_least (Span a b) (Span c d) (Span e f) p q = (omega (arith, ints, clamps), omega (arith, ints, clamps))
 
 either_of : (P : ℤ → Type 0) (b : Bool) (x y : ℤ) → P x → P y → P (cond b x y)
 either_of P true x y p q = p

@@ -19,7 +19,7 @@ use Rattle.finding_spans.specs.Places.{IsReportedAt}
 use Rattle.cycle_analysis.specs.Pass.{Entry as Told, Alarm as Alarmed}
 use Rattle.cycle_analysis.specs.Table.{Each}
 use Rattle.cycle_analysis.specs.Solved.{AreInOrder, alarms_of}
-use Rattle.cycle_analysis.proofs.Intervals.{within_refl}
+use Rattle.interval_domain.proofs.Within.{within_refl}
 use Rattle.cycle_analysis.proofs.Told.{HasRange, listed, from_list, one_of}
 use Rattle.cycle_analysis.proofs.Rising.{Rises, rising, same_node}
 use Rattle.station_cli.specs.Report.{IsTold, IsHull, IsAlarm, AreOrdered, AreAlarms}
