@@ -5,7 +5,7 @@ use Rattle.std.proofs.lemmas.Int.{ints, clamps}
 use Rattle.std.proofs.lemmas.Option.{none-some, same_Some}
 use Rattle.iec_tables.specs.Types as types
 use Rattle.iec_tables.specs.declared.elem.Elem.{Elem}
-use Rattle.interval_domain.specs.Interval.{Interval, Empty, Span, Holds, holds, IsWithin, is_within, hull}
+use Rattle.interval_domain.specs.Interval.{Interval, Empty, Span, Holds, holds, IsWithin, is_within}
 use Rattle.interval_domain.specs.Operators.{kept, range_of, typed}
 use Rattle.interval_domain.specs.Grid.{rounded}
 use Rattle.interval_domain.proofs.Laws.{meet-holds, kept-typed, held-add, held-sub, range-kept}

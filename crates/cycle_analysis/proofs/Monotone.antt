@@ -22,7 +22,7 @@ use Rattle.cycle_analysis.specs.Pass.{State, Unreachable, Reached, Entry, Wrote,
 use Rattle.cycle_analysis.specs.Table.{Part, InPart, Each}
 use Rattle.cycle_analysis.specs.Fill.{Kept, noted, all_noted}
 use Rattle.cycle_analysis.proofs.Rows.{at_empties}
-use Rattle.interval_domain.proofs.Within.{within_refl, within_trans, within_hull_left, within_hull_right, hull_least}
+use Rattle.interval_domain.proofs.Within.{within_refl, within_trans, within_hull_left, within_hull_right}
 use Rattle.cycle_analysis.proofs.Intervals.{at-put_same, length-put}
 
 pub span_mono : (a b c d : ℤ) → c ≤ℤ a → b ≤ℤ d → IsWithin (span a b) (span c d)

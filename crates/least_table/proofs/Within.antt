@@ -1,10 +1,9 @@
 -- Hulls on the grid, and tables that lie within one another.
-use Rattle.std.proofs.Common.{ℕ, zero, suc, ◌≡◌, Bool, true, false, cond, List, arith, refl, replicate}
+use Rattle.std.proofs.Common.{ℕ, zero, suc, ◌≡◌, Bool, true, false, cond, List, refl, replicate}
 use Rattle.std.specs.Prelude.{ℤ}
 use Rattle.std.specs.Prelude.{int_lt}
 use Rattle.std.specs.List.{Contains}
-use Rattle.std.proofs.lemmas.Int.{ints, clamps}
-use Rattle.interval_domain.specs.Interval.{Interval, Empty, Span, IsWithin, hull}
+use Rattle.interval_domain.specs.Interval.{Interval, Empty, Span, hull}
 use Rattle.interval_domain.proofs.Within.{within_refl, within_trans}
 use Rattle.least_table.specs.System.{Intervals, at, AreWithin, IsOnGrid}
 

@@ -1,4 +1,4 @@
--- The meaning of the graphs of the tests. Source: difference bounds, of which each says that a node holds what another one holds, moved by a
+-- The meaning of graphs as a system, the example. Source: difference bounds, of which each says that a node holds what another one holds, moved by a
 -- number; here numbers are those from 0 to 7.
 use Rattle.std.specs.Prelude.{ℕ, nat_eq, if◌then◌else◌, List, [], ◌∷◌, length, get_or, replicate, Option, Some, None, ℤ, pos}
 use Rattle.interval_domain.specs.Interval.{Interval, Empty, Span, meet}

@@ -1,4 +1,4 @@
--- The graphs of the tests are monotone systems: a proof for their law, which has to stand here.
+-- Graphs are monotone systems: a proof for their law, which has to stand here.
 use Rattle.std.proofs.Common.{◌≡◌, ℕ, zero, suc, ◌<◌, Bool, true, false, nat_eq, List, get_or, replicate, arith, rules, refl, sym, subst}
 use Rattle.std.specs.Prelude.{if◌then◌else◌, Option, Some, None, ℤ, pos, negsuc, ◌≤ℤ◌}
 use Rattle.std.specs.List.{Contains}

@@ -1,7 +1,7 @@
 -- No text of the first form nests.
 use Rattle.std.proofs.Common.{List, ◌∷◌, [], ◌++◌}
 use Rattle.token_grammar.specs.declared.token.TokenKind.{TokenKind}
-use Rattle.token_grammar.specs.declared.token.TokenKind.TheVariants.{Program, EndProgram, Var, EndVar, Int, Name, Number, Becomes, Colon, Comma, Semicolon, Plus, Minus}
+use Rattle.token_grammar.specs.declared.token.TokenKind.TheVariants.{Program, EndProgram, Var, EndVar, Int, Name, Becomes, Colon, Comma, Semicolon, Plus, Minus}
 use Rattle.token_grammar.specs.Kinds.{is_kind}
 use Rattle.token_grammar.specs.Grammar.{token}
 use Rattle.token_grammar.proofs.Flat.{Flat, flat_that, flat_give, flat_bind, flat_or, flat_node, flat_many}

@@ -1,5 +1,5 @@
 -- Taking a number of the form.
-use Rattle.std.proofs.Common.{◌≡◌, ℕ, Bool, true, false, cond, ◌&&◌, List, [], ◌∷◌, Err, refl}
+use Rattle.std.proofs.Common.{◌≡◌, ℕ, Bool, true, false, ◌&&◌, List, [], ◌∷◌, Err, refl}
 use Rattle.token_grammar.specs.declared.token.TokenKind.TheVariants.{Number}
 use Rattle.token_grammar.specs.declared.fault.ParseError.TheVariants.{Grammar}
 use Rattle.token_grammar.specs.Texts.{Lexeme}

@@ -6,12 +6,11 @@ use Rattle.std.proofs.lemmas.Bool.{leb-true}
 use Rattle.std.proofs.lemmas.List.{append-nil}
 use Rattle.std.proofs.lemmas.Grind.{flat_map-append}
 use Rattle.std.proofs.lemmas.List.Elements.{All-contains, All-contains_itself, All-weaker, All-map, All-from_recursion, recursion_from_All}
-use Rattle.token_grammar.specs.declared.token.TokenKind.{TokenKind}
 use Rattle.token_grammar.specs.declared.token.TokenKind.TheVariants.{Name, Number}
 use Rattle.token_grammar.specs.declared.token.Token.{Token}
 use Rattle.token_grammar.specs.Texts.{Lexeme, lexeme, lexemes, name_of, number_of}
-use Rattle.token_grammar.specs.Kinds.{same_kind, is_kind}
-use Rattle.token_grammar.specs.Grammar.{Word, Rule, lexemes_of, give, token, token_that, ◌>>=◌, ◌or◌, times, many, node, start_of, end_of}
+use Rattle.token_grammar.specs.Kinds.{is_kind}
+use Rattle.token_grammar.specs.Grammar.{Word, Rule, lexemes_of, give, token_that, ◌>>=◌, ◌or◌, times, many, node, start_of, end_of}
 use Rattle.st_tree.specs.declared.node.Node.{Node}
 use Rattle.st_tree.specs.declared.tree.Identifier.{Identifier}
 use Rattle.st_tree.specs.declared.tree.Path.{Path}

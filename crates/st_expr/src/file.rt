@@ -9,8 +9,8 @@ ghost use Rattle.st_expr.specs.FirstForm.{is_kept, keeps, place_at};
 ghost use Rattle.st_expr.specs.Answers.{Answers, Parses, fault_of};
 
 use crate::parser::Parser;
-use sqlite_items::Items;
 use iec_tables::fault::FaultCode;
+use sqlite_items::Items;
 use st_tree::{SourceTree, Unit};
 use station_ports::steps::Steps;
 use std::alloc::{AllocError, Global};

@@ -1,20 +1,18 @@
 -- What stands behind the `%` of an address.
-use Rattle.std.proofs.Common.{◌≡◌, ℕ, zero, suc, ◌+◌, ◌<◌, ◌≤◌, Bool, true, false, cond, not, ◌&&◌, ◌||◌, ◌⊎◌, inl, inr, List, [], ◌∷◌, ◌++◌, length, map, take, drop, codes, Option, Some, None, refl, sym, ap, subst, ◌∙◌, arith}
+use Rattle.std.proofs.Common.{◌≡◌, ℕ, zero, suc, ◌+◌, ◌≤◌, Bool, true, false, cond, not, ◌&&◌, ◌||◌, ◌⊎◌, inl, inr, List, [], ◌∷◌, ◌++◌, length, map, take, drop, codes, Some, None, refl, sym, ap, subst, ◌∙◌, arith}
 use Rattle.std.specs.Prelude.{nat_eq}
 use Rattle.std.specs.List.{list_all, Contains}
-use Rattle.std.proofs.lemmas.Bool.{eqb-true, eq-eqb}
+use Rattle.std.proofs.lemmas.Bool.{eqb-true}
 use Rattle.std.proofs.lemmas.Bool.Decides.{nat_tests}
-use Rattle.std.proofs.lemmas.List.{length-append}
 use Rattle.iec_tables.specs.Letters.{raised}
 use Rattle.st_lexer.specs.Bytes.{is_digit, begins, is_spaced, is_joined}
 use Rattle.st_lexer.specs.Texts.{IsAddress}
 use Rattle.st_lexer.specs.Front.{numbers_length, numbers_at, is_area, is_size, address_at, longer}
-use Rattle.st_lexer.proofs.Tests.{both, clash, false_by}
-use Rattle.st_lexer.proofs.Spaced.{Joined, joined, is_joined_by}
-use Rattle.st_lexer.proofs.Runs.{cons_first, cons_rest, take_front, drop_front}
-use Rattle.st_lexer.proofs.Leads.{one_of_three, each_row, raised_same}
+use Rattle.st_lexer.proofs.Tests.{both, clash}
+use Rattle.st_lexer.proofs.Spaced.{joined, is_joined_by}
+use Rattle.st_lexer.proofs.Runs.{cons_first, cons_rest}
+use Rattle.st_lexer.proofs.Leads.{each_row}
 use Rattle.st_lexer.proofs.Numerals.{longer_some}
-use Rattle.st_lexer.proofs.Raising.{take_raised, length_raised}
 
 -- ---- numbers that are joined by dots
 

@@ -1,13 +1,12 @@
 -- Where comments and pragmas close.
-use Rattle.std.proofs.Common.{◌≡◌, ℕ, zero, suc, ◌+◌, ◌<◌, ◌≤◌, Bool, true, false, cond, not, ◌&&◌, List, [], ◌∷◌, ◌++◌, length, take, drop, Option, Some, None, refl, sym, ap, ◌∙◌, arith}
+use Rattle.std.proofs.Common.{◌≡◌, ℕ, zero, suc, ◌+◌, ◌≤◌, Bool, true, false, cond, not, List, [], ◌∷◌, ◌++◌, length, take, Option, Some, None, refl, sym, ap, ◌∙◌, arith}
 use Rattle.std.specs.Prelude.{nat_eq}
 use Rattle.std.specs.List.{list_all}
 use Rattle.std.proofs.lemmas.Bool.{eqb-true}
-use Rattle.std.proofs.lemmas.List.{length-append}
 use Rattle.st_lexer.specs.declared.comments.Style.{Style}
 use Rattle.st_lexer.specs.Texts.{is_pair, behind, shut, closes, opener, closer}
 use Rattle.st_lexer.specs.Front.{longer, pragma_at}
-use Rattle.st_lexer.proofs.Tests.{both, clash}
+use Rattle.st_lexer.proofs.Tests.{both}
 use Rattle.st_lexer.proofs.Numerals.{longer_some}
 
 behind_some : (n : ℕ) (o : Option ℕ) (m : ℕ) → behind n o ≡ Some m → (j : ℕ) × (o ≡ Some j) × (n + j ≡ m)

@@ -1,7 +1,7 @@
 -- A comment that is read byte by byte.
-use Rattle.std.proofs.Common.{◌≡◌, ℕ, zero, suc, ◌+◌, ◌-◌, ◌<◌, ◌≤◌, Bool, true, false, List, [], ◌∷◌, Option, Some, None, refl, sym, ap, ◌∙◌, arith}
+use Rattle.std.proofs.Common.{◌≡◌, ℕ, zero, suc, ◌+◌, ◌-◌, ◌<◌, true, false, List, ◌∷◌, Option, Some, None, refl, ap, arith}
 use Rattle.st_lexer.specs.declared.comments.Style.{Style}
-use Rattle.st_lexer.specs.Texts.{is_pair, behind, closes, shut, opener, closer}
+use Rattle.st_lexer.specs.Texts.{is_pair, behind, closes, opener, closer}
 
 pub behind_twice : (n m : ℕ) (o : Option ℕ) → behind n (behind m o) ≡ behind (n + m) o
 behind_twice n m None = refl

@@ -1,5 +1,5 @@
 -- Each text has exactly one cut or exactly one fault.
-use Rattle.std.proofs.Common.{◌≡◌, ℕ, ◌+◌, ◌≤◌, Bool, true, false, cond, ◌⊎◌, inl, inr, List, [], ◌∷◌, length, take, drop, refl, sym, ap, subst, ◌∙◌, arith}
+use Rattle.std.proofs.Common.{◌≡◌, ℕ, ◌≤◌, Bool, true, false, cond, ◌⊎◌, inl, inr, List, [], ◌∷◌, length, take, drop, refl, sym, ap, subst, ◌∙◌, arith}
 use Rattle.std.specs.Prelude.{bytes_eq}
 use Rattle.std.specs.Str.{IsUtf8, IsValidUpTo}
 use Rattle.std.proofs.lemmas.List.{length-drop, length-take}
@@ -7,11 +7,11 @@ use Rattle.iec_tables.specs.declared.fault.FaultCode.{FaultCode}
 use Rattle.iec_tables.specs.declared.fault.FaultCode.TheVariants.{NotUtf8}
 use Rattle.token_grammar.specs.declared.token.Token.{Token}
 use Rattle.st_lexer.specs.Faulty.{IsFaulty}
-use Rattle.st_lexer.specs.Cut.{CutTo, IsCutTo, IsCut, IsStopped, IsFault, mark_length}
+use Rattle.st_lexer.specs.Cut.{IsCutTo, IsCut, IsFault, mark_length}
 use Rattle.st_lexer.specs.Laws.{SomeCut, OneCut, OneFault, NotBoth}
 use Rattle.st_lexer.proofs.Tests.{same}
 use Rattle.st_lexer.proofs.OneKind.{one_fault, fault_some}
-use Rattle.st_lexer.proofs.Cuts.{Ends, done, stopped, SameCut, one_cut, SomeEnd, some_end}
+use Rattle.st_lexer.proofs.Cuts.{Ends, done, stopped, one_cut, SomeEnd, some_end}
 use Rattle.st_lexer.proofs.Utf8.{valid_or, not_both, one_place}
 
 pub mark_within : (text : List ℕ) → mark_length text ≤ length text

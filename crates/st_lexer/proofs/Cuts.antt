@@ -1,8 +1,7 @@
 -- Cuts: how they grow, that there is one or a fault, and no two.
-use Rattle.std.proofs.Common.{◌≡◌, ℕ, zero, suc, ◌+◌, ◌-◌, ◌<◌, ◌≤◌, Bool, true, false, cond, ◌⊎◌, inl, inr, List, [], ◌∷◌, ◌++◌, length, get_or, take, drop, Option, Some, None, refl, sym, ap, subst, ◌∙◌, arith}
+use Rattle.std.proofs.Common.{◌≡◌, ℕ, zero, suc, ◌+◌, ◌-◌, ◌<◌, ◌≤◌, true, false, List, [], ◌∷◌, ◌++◌, length, get_or, take, drop, refl, sym, ap, subst, ◌∙◌, arith}
 use Rattle.std.specs.List.{list_all, prefix_len}
-use Rattle.std.specs.Str.{IsUtf8, IsValidUpTo}
-use Rattle.std.proofs.lemmas.List.{length-append, length-drop, length-take, drop_more}
+use Rattle.std.proofs.lemmas.List.{length-append, length-drop, drop_more}
 use Rattle.iec_tables.specs.declared.fault.FaultCode.{FaultCode}
 use Rattle.iec_tables.specs.declared.fault.FaultCode.TheVariants.{NotUtf8, BadByte, OpenComment, BadNumber, BadName, NotBuilt}
 use Rattle.token_grammar.specs.declared.token.TokenKind.{TokenKind}
@@ -12,16 +11,14 @@ use Rattle.st_lexer.specs.declared.front.Found.TheVariants as found
 use Rattle.st_lexer.specs.Bytes.{is_white, begins}
 use Rattle.st_lexer.specs.Texts.{IsText}
 use Rattle.st_lexer.specs.Faulty.{IsFaulty}
-use Rattle.st_lexer.specs.Cut.{IsToken, IsBlank, IsNext, CutTo, IsCutTo, IsCut, IsStopped, IsFault, mark_length}
-use Rattle.st_lexer.specs.Laws.{SomeCut, OneCut, OneFault, NotBoth}
+use Rattle.st_lexer.specs.Cut.{IsToken, IsBlank, IsNext, CutTo, IsCutTo, mark_length}
 use Rattle.st_lexer.specs.Front.{front}
-use Rattle.st_lexer.proofs.Tests.{clash}
-use Rattle.st_lexer.proofs.Runs.{run_passes, run_stops, run_within, run_length, Front, front_is, split_at, same_front, append_assoc_, all_append, drop_front}
+use Rattle.st_lexer.proofs.Runs.{run_passes, run_stops, front_is, split_at, same_front, append_assoc_, all_append, drop_front}
 use Rattle.st_lexer.proofs.LeadTexts.{text_some}
 use Rattle.st_lexer.proofs.TimeParts.{to_end}
 use Rattle.st_lexer.proofs.Standing.{StandsToken, Stands, length_take}
 use Rattle.st_lexer.proofs.FrontRight.{front_right}
-use Rattle.st_lexer.proofs.OneKind.{one_kind, text_dark, fault_dark, fault_some, one_fault}
+use Rattle.st_lexer.proofs.OneKind.{one_kind, text_dark, fault_dark}
 
 -- ---- how a cut grows
 

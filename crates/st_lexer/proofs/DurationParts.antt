@@ -1,23 +1,22 @@
 -- The parts of a time: what is read is a list of parts, each list is read, and none is longer.
-use Rattle.std.proofs.Common.{◌≡◌, ℕ, zero, suc, ◌+◌, ◌-◌, ◌*◌, ◌/◌, ◌%◌, ◌^◌, ◌<◌, ◌≤◌, Bool, true, false, cond, not, ◌&&◌, ◌||◌, ◌⊎◌, inl, inr, ltb, leb, List, [], ◌∷◌, ◌++◌, length, map, take, drop, codes, Option, Some, None, refl, sym, ap, subst, ◌∙◌, arith}
+use Rattle.std.proofs.Common.{◌≡◌, ℕ, zero, suc, ◌+◌, ◌-◌, ◌*◌, ◌/◌, ◌%◌, ◌^◌, ◌<◌, ◌≤◌, Bool, true, false, cond, ◌&&◌, ◌⊎◌, inl, inr, ltb, leb, List, [], ◌∷◌, ◌++◌, length, take, drop, codes, Option, Some, None, refl, sym, ap, subst, ◌∙◌, arith}
 use Rattle.std.specs.Prelude.{nat_eq}
-use Rattle.std.specs.List.{list_all, prefix_len, Contains}
-use Rattle.std.proofs.Math.Nat.{mul-le-mul_left, mul-le-mul}
+use Rattle.std.specs.List.{list_all, Contains}
+use Rattle.std.proofs.Math.Nat.{mul-le-mul_left}
 use Rattle.std.proofs.lemmas.Bool.{ltb-true, lt-ltb, leb-true, le-leb}
 use Rattle.std.proofs.lemmas.Bool.Decides.{nat_tests}
-use Rattle.std.proofs.lemmas.List.{length-append, length-take, length-drop}
-use Rattle.iec_tables.specs.Letters.{raised}
+use Rattle.std.proofs.lemmas.List.{length-append, length-drop}
 use Rattle.st_lexer.specs.declared.times.Part.{Part as Seen}
-use Rattle.st_lexer.specs.Bytes.{is_alphabetic, is_letter, is_digit, in_word, begins, value_in}
-use Rattle.st_lexer.specs.Times.{Part, units, dotted, part_text, scaled, milliseconds, IsPart, ArePartsOf, sum_of}
+use Rattle.st_lexer.specs.Bytes.{is_alphabetic, is_digit, in_word, begins, value_in}
+use Rattle.st_lexer.specs.Times.{Part, dotted, part_text, milliseconds, IsPart, ArePartsOf, sum_of}
 use Rattle.st_lexer.specs.Front.{part_at, parts_at, link_length, longer, letters_length, whole_length}
 use Rattle.st_lexer.proofs.Tests.{both, clash}
-use Rattle.st_lexer.proofs.Runs.{run_exact, run_within, split_at, drop_front, append_assoc_}
+use Rattle.st_lexer.proofs.Runs.{run_exact, drop_front, append_assoc_}
 use Rattle.st_lexer.proofs.Leads.{one_of_two}
 use Rattle.st_lexer.proofs.Numerals.{longer_some}
 use Rattle.st_lexer.proofs.Raising.{drop_raised}
 use Rattle.st_lexer.proofs.TimeParts.{ten_pos}
-use Rattle.st_lexer.proofs.Durations.{IsRaised, unit_is, front_of, part_length, seen_of, part_found, Read, read, part_bound, PartHere, part_some, take_add, drop_add}
+use Rattle.st_lexer.proofs.Durations.{IsRaised, unit_is, front_of, part_length, part_found, read, part_bound, PartHere, part_some, take_add, drop_add}
 
 -- ---- what a step reads
 

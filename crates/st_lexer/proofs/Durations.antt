@@ -1,20 +1,19 @@
 -- Times: what is read behind the `#` is the rest of one, and each one is read.
-use Rattle.std.proofs.Common.{◌≡◌, ℕ, zero, suc, ◌+◌, ◌-◌, ◌*◌, ◌/◌, ◌%◌, ◌^◌, ◌<◌, ◌≤◌, Bool, true, false, cond, not, ◌&&◌, ◌||◌, ◌⊎◌, inl, inr, ltb, leb, List, [], ◌∷◌, ◌++◌, length, map, take, drop, codes, Option, Some, None, refl, sym, ap, subst, ◌∙◌, arith}
+use Rattle.std.proofs.Common.{◌≡◌, ℕ, zero, suc, ◌+◌, ◌-◌, ◌*◌, ◌/◌, ◌%◌, ◌^◌, ◌<◌, ◌≤◌, Bool, true, false, cond, ◌&&◌, ltb, leb, List, [], ◌∷◌, ◌++◌, length, map, take, drop, Option, Some, None, refl, sym, ap, subst, ◌∙◌, arith}
 use Rattle.std.specs.Prelude.{nat_eq, bytes_eq}
 use Rattle.std.specs.List.{list_all, fold, prefix_len, Contains}
 use Rattle.std.proofs.lemmas.Bool.{ltb-true, lt-ltb, leb-true, le-leb, eqb-true, eq-eqb}
 use Rattle.std.proofs.lemmas.Bool.Decides.{nat_tests}
-use Rattle.std.proofs.lemmas.List.{length-append, length-take, length-drop}
+use Rattle.std.proofs.lemmas.List.{length-append, length-drop}
 use Rattle.iec_tables.specs.Letters.{raised}
 use Rattle.st_lexer.specs.declared.times.Part.{Part as Seen}
-use Rattle.st_lexer.specs.Bytes.{is_alphabetic, is_letter, is_digit, in_word, begins, worth, one_more, value_in}
-use Rattle.st_lexer.specs.Times.{Part, units, dotted, part_text, scaled, milliseconds, IsPart, ArePartsOf, sum_of, greatest, sign_of}
-use Rattle.st_lexer.specs.Front.{and_then, whole_length, fraction_at, counted, letters_length, size_in, unit_size, value_on, part_of, part_at, parts_at, link_length, longer, time_at, above_units}
+use Rattle.st_lexer.specs.Bytes.{is_alphabetic, is_digit, begins, one_more, value_in}
+use Rattle.st_lexer.specs.Times.{Part, units, dotted, part_text, milliseconds, IsPart}
+use Rattle.st_lexer.specs.Front.{and_then, whole_length, fraction_at, counted, letters_length, size_in, unit_size, value_on, part_at, above_units}
 use Rattle.st_lexer.proofs.Tests.{same, both, clash}
-use Rattle.st_lexer.proofs.Runs.{run_passes, run_stops, run_within, run_length, run_longest, run_exact, Front, front_is, split_at, take_front, drop_front, append_assoc_, all_append}
-use Rattle.st_lexer.proofs.Leads.{is_capital, each_row, one_of_two}
+use Rattle.st_lexer.proofs.Runs.{run_passes, run_stops, run_within, run_length, run_longest, run_exact, front_is, take_front, drop_front, append_assoc_, all_append}
+use Rattle.st_lexer.proofs.Leads.{is_capital, each_row}
 use Rattle.st_lexer.proofs.Raising.{take_raised, drop_raised}
-use Rattle.st_lexer.proofs.TimeParts.{ten_pos}
 
 -- ---- the value of digits
 

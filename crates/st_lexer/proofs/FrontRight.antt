@@ -1,6 +1,5 @@
 -- What stands at the front is what the functions find there.
-use Rattle.std.proofs.Common.{◌≡◌, ℕ, Bool, true, false, List, [], ◌∷◌, refl, sym, ap, subst, ◌∙◌}
-use Rattle.st_lexer.specs.declared.front.Found.{Found}
+use Rattle.std.proofs.Common.{◌≡◌, ℕ, false, List, ◌∷◌, refl}
 use Rattle.st_lexer.specs.declared.bytes.Lead.{Lead}
 use Rattle.st_lexer.specs.declared.bytes.Lead.TheVariants as lead
 use Rattle.st_lexer.specs.Bytes.{is_white}

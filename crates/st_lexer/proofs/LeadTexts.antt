@@ -1,5 +1,5 @@
 -- The texts that a byte may lead, by its lead, and the faults that it may lead.
-use Rattle.std.proofs.Common.{◌≡◌, ℕ, zero, suc, ◌+◌, ◌<◌, ◌≤◌, Bool, true, false, cond, not, ◌&&◌, ◌||◌, ◌⊎◌, inl, inr, List, [], ◌∷◌, ◌++◌, length, map, codes, Option, Some, None, refl, sym, ap, subst, ◌∙◌, arith}
+use Rattle.std.proofs.Common.{◌≡◌, ℕ, Bool, true, false, not, List, [], ◌∷◌, ◌++◌, length, map, Some, refl, sym, ap, subst, ◌∙◌, arith}
 use Rattle.std.specs.Prelude.{nat_eq}
 use Rattle.std.specs.List.{list_all, Contains}
 use Rattle.std.proofs.lemmas.Bool.Decides.{nat_tests}
@@ -10,15 +10,15 @@ use Rattle.st_lexer.specs.declared.comments.Style.{Style}
 use Rattle.st_lexer.specs.declared.comments.Style.TheVariants.{Parentheses, Slashes}
 use Rattle.st_lexer.specs.declared.bytes.Lead.{Lead}
 use Rattle.st_lexer.specs.declared.bytes.Lead.TheVariants as lead
-use Rattle.st_lexer.specs.Bytes.{between, is_alphabetic, is_letter, is_digit, in_word, begins, worth, is_digit_in, is_joined, is_spaced}
+use Rattle.st_lexer.specs.Bytes.{is_letter, is_digit, begins, is_digit_in}
 use Rattle.st_lexer.specs.Texts as texts
 use Rattle.st_lexer.specs.Texts.{IsComment, IsPragma, IsName, IsNumeral, IsNumber, IsAddress, IsText, keywords, marks, opener, closes, bases}
 use Rattle.st_lexer.specs.Front.{lead_of}
 use Rattle.st_lexer.specs.Faulty as faulty
 use Rattle.st_lexer.specs.Faulty.{IsOpen, IsBadName, BeginsLiteral, IsBadNumber}
 use Rattle.st_lexer.proofs.Spaced.{joined}
-use Rattle.st_lexer.proofs.Runs.{cons_first, cons_rest}
-use Rattle.st_lexer.proofs.Leads.{letter_lead, digit_lead, opener_lead, each_row, raised_same, TypedSplit, typed_split, TimeSplit, time_split, IsPlain, keyword_plain, IsLetters, type_letters, time_letters}
+use Rattle.st_lexer.proofs.Runs.{cons_first}
+use Rattle.st_lexer.proofs.Leads.{letter_lead, digit_lead, each_row, raised_same, TypedSplit, typed_split, TimeSplit, time_split, keyword_plain, type_letters, time_letters}
 
 -- ---- texts
 

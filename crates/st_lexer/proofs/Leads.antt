@@ -1,25 +1,20 @@
 -- Which byte leads the text of each kind, and the place of each fault.
-use Rattle.std.proofs.Common.{◌≡◌, ℕ, zero, suc, ◌+◌, ◌<◌, ◌≤◌, ◌^◌, Bool, true, false, cond, not, ◌&&◌, ◌||◌, ◌⊎◌, inl, inr, List, [], ◌∷◌, ◌++◌, length, map, get_or, codes, Option, Some, None, refl, sym, ap, subst, ◌∙◌, arith}
+use Rattle.std.proofs.Common.{◌≡◌, ℕ, zero, suc, ◌≤◌, Bool, true, false, cond, ◌&&◌, ◌||◌, ◌⊎◌, inl, inr, List, [], ◌∷◌, ◌++◌, map, codes, refl, sym, ap, ◌∙◌, arith}
 use Rattle.std.specs.Prelude.{bytes_eq, nat_eq}
-use Rattle.std.specs.List.{list_all, list_any, Contains, zip}
-use Rattle.std.proofs.lemmas.Bool.{eqb-true, eq-eqb}
+use Rattle.std.specs.List.{list_all, list_any, Contains}
+use Rattle.std.proofs.lemmas.Bool.{eqb-true}
 use Rattle.std.proofs.lemmas.Bool.Decides.{nat_tests}
 use Rattle.iec_tables.specs.Letters.{raised}
-use Rattle.iec_tables.specs.Words.{keyword_texts}
 use Rattle.token_grammar.specs.declared.token.TokenKind.{TokenKind}
-use Rattle.token_grammar.specs.declared.token.TokenKind.TheVariants as kind
 use Rattle.st_lexer.specs.declared.comments.Style.{Style}
 use Rattle.st_lexer.specs.declared.comments.Style.TheVariants.{Parentheses, Slashes}
-use Rattle.st_lexer.specs.declared.bytes.Lead.{Lead}
 use Rattle.st_lexer.specs.declared.bytes.Lead.TheVariants as lead
-use Rattle.st_lexer.specs.Bytes.{between, is_alphabetic, is_letter, is_digit, in_word, begins, worth, is_digit_in, is_joined}
+use Rattle.st_lexer.specs.Bytes.{between, is_alphabetic, is_letter, is_digit, in_word, begins}
 use Rattle.st_lexer.specs.Times.{Part, ArePartsOf, sum_of, greatest, sign_of, IsTime}
 use Rattle.st_lexer.specs.Texts as texts
 use Rattle.st_lexer.specs.Texts.{is_word_of, IsComment, IsPragma, IsName, IsNumeral, IsNumber, IsTyped, IsSign, IsAddress, IsText, type_words, keywords, marks, opener, closes, bases}
 use Rattle.st_lexer.specs.Front.{lead_of, truths}
-use Rattle.st_lexer.specs.Faulty as faulty
-use Rattle.st_lexer.specs.Faulty.{IsOpen, IsBadName, BeginsLiteral, IsBadNumber}
-use Rattle.st_lexer.proofs.Tests.{same, equal, both, or_right}
+use Rattle.st_lexer.proofs.Tests.{same, both, or_right}
 use Rattle.st_lexer.proofs.Runs.{cons_first, cons_rest, all_wider}
 
 -- ---- what a lead tells of its byte

@@ -1,19 +1,19 @@
 -- Numerals and numbers: what is read at the front is one, and each one is read.
-use Rattle.std.proofs.Common.{◌≡◌, ℕ, zero, suc, ◌+◌, ◌-◌, ◌*◌, ◌^◌, ◌<◌, ◌≤◌, Bool, true, false, cond, not, ◌&&◌, ◌||◌, ◌⊎◌, inl, inr, ltb, List, [], ◌∷◌, ◌++◌, length, take, drop, codes, Option, Some, None, refl, sym, ap, subst, ◌∙◌, arith}
+use Rattle.std.proofs.Common.{◌≡◌, ℕ, zero, suc, ◌+◌, ◌*◌, ◌^◌, ◌<◌, ◌≤◌, Bool, true, false, cond, not, ◌&&◌, ◌||◌, ltb, List, [], ◌∷◌, ◌++◌, length, take, drop, codes, Option, Some, None, refl, sym, ap, subst, ◌∙◌, arith}
 use Rattle.std.specs.Prelude.{nat_eq, bytes_eq}
 use Rattle.std.specs.List.{list_all, fold, prefix_len, Contains}
 use Rattle.std.proofs.Math.Nat.{mul-le-mul_left}
 use Rattle.std.proofs.lemmas.Bool.{ltb-true, lt-ltb}
 use Rattle.std.proofs.lemmas.Bool.Decides.{nat_tests}
-use Rattle.std.proofs.lemmas.List.{length-append, length-take}
-use Rattle.st_lexer.specs.Bytes.{is_alphabetic, is_letter, is_digit, in_word, begins, worth, is_digit_in, one_more, value_in, is_spaced, is_joined}
+use Rattle.std.proofs.lemmas.List.{length-append}
+use Rattle.st_lexer.specs.Bytes.{in_word, begins, worth, is_digit_in, one_more}
 use Rattle.st_lexer.specs.Texts as texts
 use Rattle.st_lexer.specs.Texts.{IsNumeral, IsNumber, bases}
 use Rattle.st_lexer.specs.Faulty.{is_fraction, EndsNumber}
 use Rattle.st_lexer.specs.Front.{goes_on, digits_at, base_of, number_by, number_at, longer, word_length, hash_follows}
-use Rattle.st_lexer.proofs.Tests.{same, equal, both, false_by, clash, or_right}
-use Rattle.st_lexer.proofs.Spaced.{goes_well, well_from, Joined, joined, is_joined_by}
-use Rattle.st_lexer.proofs.Runs.{run_passes, run_stops, run_within, run_length, run_longest, Front, front_is, split_at, take_front, drop_front, append_assoc_, all_wider, all_of_append, cons_rest}
+use Rattle.st_lexer.proofs.Tests.{same, both, clash, or_right}
+use Rattle.st_lexer.proofs.Spaced.{goes_well, well_from, joined, is_joined_by}
+use Rattle.st_lexer.proofs.Runs.{run_stops, run_within, run_length, run_longest, Front, front_is, split_at, append_assoc_, all_wider, all_of_append}
 use Rattle.st_lexer.proofs.Leads.{each_row}
 
 -- ---- numerals

@@ -1,5 +1,5 @@
 -- A text has one kind, and a place one fault.
-use Rattle.std.proofs.Common.{◌≡◌, ℕ, zero, suc, ◌+◌, ◌<◌, ◌≤◌, Bool, true, false, cond, not, ◌&&◌, ◌||◌, List, [], ◌∷◌, ◌++◌, length, map, codes, Option, Some, None, refl, sym, ap, subst, ◌∙◌, arith}
+use Rattle.std.proofs.Common.{◌≡◌, ℕ, zero, suc, Bool, true, false, not, ◌&&◌, ◌||◌, List, [], ◌∷◌, ◌++◌, map, codes, refl, sym, ap, subst, ◌∙◌, arith}
 use Rattle.std.specs.Prelude.{nat_eq, bytes_eq}
 use Rattle.std.specs.List.{list_all, list_any, Contains, zip}
 use Rattle.std.proofs.lemmas.Bool.Decides.{nat_tests}
@@ -10,17 +10,17 @@ use Rattle.iec_tables.specs.declared.fault.FaultCode.TheVariants.{NotUtf8, BadBy
 use Rattle.token_grammar.specs.declared.token.TokenKind.{TokenKind}
 use Rattle.st_lexer.specs.declared.bytes.Lead.{Lead}
 use Rattle.st_lexer.specs.declared.bytes.Lead.TheVariants as lead
-use Rattle.st_lexer.specs.Bytes.{is_white, is_letter, is_digit, in_word, begins, is_spaced}
-use Rattle.st_lexer.specs.Texts.{IsText, keyword_kinds, keywords, marks, is_word_of, type_words}
+use Rattle.st_lexer.specs.Bytes.{is_white, is_letter, in_word, begins, is_spaced}
+use Rattle.st_lexer.specs.Texts.{IsText, keyword_kinds, keywords, marks, is_word_of}
 use Rattle.st_lexer.specs.Faulty as faulty
 use Rattle.st_lexer.specs.Faulty.{IsOpen, IsBadName, BeginsLiteral, IsBadNumber, IsBadByte, IsFaulty}
 use Rattle.st_lexer.specs.Front.{lead_of}
-use Rattle.st_lexer.proofs.Tests.{same, equal, both, clash, differ}
-use Rattle.st_lexer.proofs.Runs.{Front, front_is, all_of_append}
-use Rattle.st_lexer.proofs.Leads.{each_row, all_letters, type_letters, time_letters, TypedSplit, TimeSplit, keyword_plain, digit_lead, lead_letter}
+use Rattle.st_lexer.proofs.Tests.{equal, both, clash}
+use Rattle.st_lexer.proofs.Runs.{front_is, all_of_append}
+use Rattle.st_lexer.proofs.Leads.{each_row, all_letters, type_letters, time_letters, TypedSplit, TimeSplit, keyword_plain, digit_lead}
 use Rattle.st_lexer.proofs.LeadTexts as led
 use Rattle.st_lexer.proofs.LeadTexts.{HasLead, LetterText, ParenthesisText, SlashText, lead_text, text_some, open_lead, name_lead, number_lead, may_open, may_name, may_number}
-use Rattle.st_lexer.proofs.Numerals.{Hashed, hashed}
+use Rattle.st_lexer.proofs.Numerals.{hashed}
 use Rattle.st_lexer.proofs.RightWords.{apart, letters_spaced}
 
 -- ---- tables whose texts differ

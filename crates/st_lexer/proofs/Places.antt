@@ -1,12 +1,11 @@
 -- Where tokens and faults stand: within the text.
-use Rattle.std.proofs.Common.{◌≡◌, ℕ, zero, suc, ◌+◌, ◌<◌, ◌≤◌, inl, inr, List, [], ◌∷◌, ◌++◌, length, drop, refl, ap, arith}
+use Rattle.std.proofs.Common.{◌≡◌, ℕ, zero, suc, ◌+◌, ◌<◌, ◌≤◌, inl, inr, List, [], ◌∷◌, ◌++◌, length, drop, ap, arith}
 use Rattle.std.specs.List.{Contains}
 use Rattle.std.proofs.lemmas.List.{length-append, length-drop}
 use Rattle.token_grammar.specs.declared.token.TokenKind.{TokenKind}
 use Rattle.token_grammar.specs.declared.token.Token.{Token}
 use Rattle.st_lexer.specs.Texts.{IsText}
-use Rattle.st_lexer.specs.Cut.{IsBlank, IsNext, CutTo, IsStopped, mark_length}
-use Rattle.st_lexer.specs.Placed.{IsIn}
+use Rattle.st_lexer.specs.Cut.{IsBlank, IsNext, CutTo, mark_length}
 use Rattle.st_lexer.specs.Laws.{TokensIn, FaultIn}
 use Rattle.st_lexer.proofs.LeadTexts.{text_some}
 use Rattle.st_lexer.proofs.CutLaws.{mark_within}

@@ -1,12 +1,12 @@
 -- What reads a time reads the same of letters in either case.
-use Rattle.std.proofs.Common.{◌≡◌, ℕ, zero, suc, ◌+◌, ◌-◌, ◌*◌, ◌^◌, ◌<◌, ◌≤◌, Bool, true, false, cond, not, ◌&&◌, ◌||◌, ltb, leb, List, [], ◌∷◌, ◌++◌, length, map, take, drop, Option, Some, None, refl, sym, ap, subst, ◌∙◌, arith}
+use Rattle.std.proofs.Common.{◌≡◌, ℕ, zero, suc, ◌+◌, ◌-◌, ◌*◌, ◌^◌, Bool, true, false, cond, ◌&&◌, ltb, leb, List, [], ◌∷◌, length, map, take, drop, Option, Some, None, refl, ap, ◌∙◌, arith}
 use Rattle.std.specs.Prelude.{nat_eq}
 use Rattle.std.specs.List.{prefix_len}
 use Rattle.std.proofs.lemmas.Bool.Decides.{nat_tests}
 use Rattle.iec_tables.specs.Letters.{raised}
 use Rattle.st_lexer.specs.declared.times.Part.{Part}
 use Rattle.st_lexer.specs.Bytes.{is_alphabetic, is_digit, in_word, begins}
-use Rattle.st_lexer.specs.Front.{and_then, whole_length, fraction_at, counted, letters_length, unit_size, value_on, part_of, part_at, parts_at, link_length, longer, time_at, above_units}
+use Rattle.st_lexer.specs.Front.{and_then, whole_length, fraction_at, letters_length, unit_size, value_on, part_of, part_at, parts_at, link_length, longer, time_at, above_units}
 
 raised_digit : (b : ℕ) → is_digit (raised b) ≡ is_digit b
 raised_digit b = grind (arith, nat_tests)

@@ -1,36 +1,30 @@
 -- What the functions find at the front stands there, whatever leads it but a letter.
-use Rattle.std.proofs.Common.{◌≡◌, ℕ, zero, suc, ◌+◌, ◌-◌, ◌<◌, ◌≤◌, Bool, true, false, cond, not, ◌&&◌, ◌||◌, List, [], ◌∷◌, ◌++◌, length, map, take, drop, Option, Some, None, refl, sym, ap, subst, ◌∙◌, arith}
-use Rattle.std.specs.Prelude.{nat_eq}
-use Rattle.std.specs.List.{list_all, prefix_len, Contains}
-use Rattle.std.proofs.lemmas.Bool.{eqb-true}
+use Rattle.std.proofs.Common.{◌≡◌, ℕ, zero, suc, ◌+◌, ◌<◌, true, List, [], ◌∷◌, ◌++◌, length, take, drop, Option, Some, None, refl, sym, ap, subst, ◌∙◌, arith}
+use Rattle.std.specs.List.{list_all}
 use Rattle.std.proofs.lemmas.Bool.Decides.{nat_tests}
 use Rattle.std.proofs.lemmas.List.{length-append}
-use Rattle.iec_tables.specs.declared.fault.FaultCode.{FaultCode}
 use Rattle.iec_tables.specs.declared.fault.FaultCode.TheVariants.{BadByte, OpenComment, BadNumber}
 use Rattle.token_grammar.specs.declared.token.TokenKind.{TokenKind}
 use Rattle.token_grammar.specs.declared.token.TokenKind.TheVariants as kind
 use Rattle.st_lexer.specs.declared.comments.Style.{Style}
 use Rattle.st_lexer.specs.declared.comments.Style.TheVariants.{Parentheses, Slashes}
-use Rattle.st_lexer.specs.declared.front.Found.{Found}
-use Rattle.st_lexer.specs.declared.front.Found.TheVariants.{Token, Fault}
 use Rattle.st_lexer.specs.declared.bytes.Lead.{Lead}
 use Rattle.st_lexer.specs.declared.bytes.Lead.TheVariants as lead
-use Rattle.st_lexer.specs.Bytes.{is_white, is_letter, is_digit, in_word, begins}
+use Rattle.st_lexer.specs.Bytes.{is_letter, is_digit, begins}
 use Rattle.st_lexer.specs.Texts as texts
 use Rattle.st_lexer.specs.Texts.{IsComment, IsPragma, IsNumber, IsTyped, IsAddress, IsText, closes, opener, marks}
 use Rattle.st_lexer.specs.Faulty as faulty
 use Rattle.st_lexer.specs.Faulty.{IsOpen, IsBadName, HasLiteral, BeginsLiteral, IsBadNumber, HasNoFault, IsBadByte, IsFaulty}
-use Rattle.st_lexer.specs.Cut.{IsLongest}
-use Rattle.st_lexer.specs.Front.{longer, token_or, number_at, pragma_at, address_at, line_length, comment_at, at_parenthesis, at_slash, mark_at, lead_of}
+use Rattle.st_lexer.specs.Front.{longer, token_or, number_at, pragma_at, address_at, lead_of}
 use Rattle.st_lexer.proofs.Tests.{differ, both, clash}
-use Rattle.st_lexer.proofs.Runs.{run_passes, run_within, run_longest, split_at, cons_first, cons_rest, append_assoc_, drop_front, take_front}
-use Rattle.st_lexer.proofs.Leads.{lead_digit, lead_percent, lead_brace, lead_parenthesis, lead_slash, digit_lead, type_letters, time_letters, typed_split, time_split}
+use Rattle.st_lexer.proofs.Runs.{split_at, cons_first, cons_rest, append_assoc_}
+use Rattle.st_lexer.proofs.Leads.{lead_digit, lead_percent, lead_brace, type_letters, time_letters, typed_split, time_split}
 use Rattle.st_lexer.proofs.LeadTexts as led
 use Rattle.st_lexer.proofs.LeadTexts.{HasLead, ParenthesisText, SlashText, lead_text, open_lead, name_lead, number_lead, may_open, may_name, may_number, text_some}
-use Rattle.st_lexer.proofs.Numerals.{number_some, number_bound, number_found, longer_some}
-use Rattle.st_lexer.proofs.Closed.{closes_on, closes_front, some_is, pragma_some, pragma_none, pragma_found, no_brace}
+use Rattle.st_lexer.proofs.Numerals.{number_some, number_bound, number_found}
+use Rattle.st_lexer.proofs.Closed.{some_is, pragma_some, pragma_none, pragma_found, no_brace}
 use Rattle.st_lexer.proofs.AddressesAt.{address_some, address_reads}
-use Rattle.st_lexer.proofs.Standing.{StandsToken, Stands, stands, no_fault, OnlyMarks, mark_stands}
+use Rattle.st_lexer.proofs.Standing.{Stands, stands, no_fault}
 
 -- what a text at the front must be, by the lead
 pub led_text : (b : ℕ) (bs : List ℕ) (l : Lead) (k : TokenKind) (text rest : List ℕ) → lead_of b ≡ l → b ∷ bs ≡ text ++ rest → IsText k text → HasLead l k text

@@ -1,7 +1,7 @@
 -- What the functions find at the front stands there: comments, and marks.
-use Rattle.std.proofs.Common.{◌≡◌, ℕ, zero, suc, ◌+◌, ◌<◌, ◌≤◌, Bool, true, false, cond, not, ◌&&◌, List, [], ◌∷◌, ◌++◌, length, take, drop, Option, Some, None, refl, sym, ap, subst, ◌∙◌, arith}
+use Rattle.std.proofs.Common.{◌≡◌, ℕ, suc, ◌+◌, ◌≤◌, Bool, true, false, cond, not, List, [], ◌∷◌, ◌++◌, length, take, drop, Option, Some, None, refl, sym, ap, subst, ◌∙◌, arith}
 use Rattle.std.specs.Prelude.{nat_eq}
-use Rattle.std.specs.List.{list_all, prefix_len, Contains}
+use Rattle.std.specs.List.{Contains}
 use Rattle.std.proofs.lemmas.Bool.{eqb-true}
 use Rattle.std.proofs.lemmas.Bool.Decides.{nat_tests}
 use Rattle.iec_tables.specs.declared.fault.FaultCode.TheVariants.{OpenComment}
@@ -25,7 +25,7 @@ use Rattle.st_lexer.proofs.Leads.{lead_parenthesis, lead_slash}
 use Rattle.st_lexer.proofs.LeadTexts as led
 use Rattle.st_lexer.proofs.LeadTexts.{ParenthesisText, SlashText, open_lead, name_lead, number_lead, may_open, may_name, may_number}
 use Rattle.st_lexer.proofs.Closed.{closes_on, closes_front, some_is}
-use Rattle.st_lexer.proofs.Standing.{StandsToken, Stands, stands, no_fault, OnlyMarks, mark_stands, mark_short, length_take}
+use Rattle.st_lexer.proofs.Standing.{Stands, stands, no_fault, OnlyMarks, mark_stands, mark_short, length_take}
 use Rattle.st_lexer.proofs.Right.{led_text}
 
 -- ---- comments with an end

@@ -1,5 +1,5 @@
 -- What the functions find at the front stands there: words, typed numbers and times.
-use Rattle.std.proofs.Common.{◌≡◌, ℕ, zero, suc, ◌+◌, ◌<◌, ◌≤◌, Bool, true, false, cond, not, ◌&&◌, ◌||◌, List, [], ◌∷◌, ◌++◌, length, map, take, drop, codes, Option, Some, None, refl, sym, ap, subst, ◌∙◌, arith}
+use Rattle.std.proofs.Common.{◌≡◌, ℕ, suc, ◌+◌, ◌<◌, ◌≤◌, Bool, true, false, cond, not, ◌&&◌, ◌||◌, List, [], ◌∷◌, ◌++◌, length, map, take, drop, codes, Option, Some, None, refl, sym, ap, subst, ◌∙◌, arith}
 use Rattle.std.specs.Prelude.{nat_eq, bytes_eq}
 use Rattle.std.specs.List.{list_all, list_any, prefix_len, Contains, zip}
 use Rattle.std.proofs.lemmas.Bool.Decides.{nat_tests}
@@ -9,7 +9,6 @@ use Rattle.iec_tables.specs.Words.{keyword_texts}
 use Rattle.iec_tables.specs.declared.fault.FaultCode.TheVariants.{BadNumber, BadName}
 use Rattle.token_grammar.specs.declared.token.TokenKind.{TokenKind}
 use Rattle.token_grammar.specs.declared.token.TokenKind.TheVariants as kind
-use Rattle.st_lexer.specs.declared.front.Found.{Found}
 use Rattle.st_lexer.specs.declared.front.Found.TheVariants.{Token, Fault}
 use Rattle.st_lexer.specs.declared.bytes.Lead.TheVariants as lead
 use Rattle.st_lexer.specs.Bytes.{is_alphabetic, is_letter, is_digit, in_word, begins, is_spaced}
@@ -20,15 +19,15 @@ use Rattle.st_lexer.specs.Faulty as faulty
 use Rattle.st_lexer.specs.Faulty.{IsOpen, IsBadName, HasLiteral, BeginsLiteral, IsBadNumber, HasNoFault, EndsNumber}
 use Rattle.st_lexer.specs.Cut.{IsLongest}
 use Rattle.st_lexer.specs.Front.{found_in, longer, token_or, word_length, hash_follows, word_kind, kind_or_name, typed_at, time_at, word_at, truths, lead_of}
-use Rattle.st_lexer.proofs.Tests.{same, equal, both, clash, false_by}
-use Rattle.st_lexer.proofs.Runs.{run_passes, run_stops, run_within, run_length, run_longest, Front, front_is, split_at, append_assoc_, cons_first, cons_rest}
-use Rattle.st_lexer.proofs.Leads.{lead_letter, letter_word, alphabetic_letter, all_letters, WordAmong, word_among, IsLetters, type_letters, time_letters, TypedSplit, typed_split, truth_parts, TypedRest, number, truth, TimeSplit, time_split, TimeRest, keyword_plain, is_capital}
+use Rattle.st_lexer.proofs.Tests.{same, both, clash, false_by}
+use Rattle.st_lexer.proofs.Runs.{run_passes, run_stops, run_within, run_length, run_longest, front_is, split_at, append_assoc_, cons_first, cons_rest}
+use Rattle.st_lexer.proofs.Leads.{lead_letter, letter_word, all_letters, word_among, type_letters, time_letters, truth_parts, TypedRest, time_split, TimeRest, keyword_plain}
 use Rattle.st_lexer.proofs.LeadTexts as led
 use Rattle.st_lexer.proofs.LeadTexts.{LetterText, may_open, open_lead}
-use Rattle.st_lexer.proofs.Numerals.{Hashed, hashed, take_suc, drop_suc, hash_first, longer_some}
-use Rattle.st_lexer.proofs.TypedNumbers.{SignedHere, TypedEnds, number_ends, truth_ends, typed_some, typed_bound, typed_found}
-use Rattle.st_lexer.proofs.TimesAt.{TimeHere, time_some, time_bound, time_found}
-use Rattle.st_lexer.proofs.Standing.{StandsToken, Stands, stands, found_there, found_missing}
+use Rattle.st_lexer.proofs.Numerals.{hashed, take_suc, drop_suc, hash_first}
+use Rattle.st_lexer.proofs.TypedNumbers.{TypedEnds, number_ends, truth_ends, typed_some, typed_bound, typed_found}
+use Rattle.st_lexer.proofs.TimesAt.{time_some, time_bound, time_found}
+use Rattle.st_lexer.proofs.Standing.{Stands, stands, found_there}
 use Rattle.st_lexer.proofs.Right.{led_text}
 
 abbrev time_words : List (List ℕ)

@@ -1,23 +1,21 @@
 -- What stands at the front, as the definition says, and what serves each lead.
-use Rattle.std.proofs.Common.{◌≡◌, ℕ, zero, suc, ◌+◌, ◌-◌, ◌<◌, ◌≤◌, Bool, true, false, cond, not, ◌&&◌, ◌||◌, leb, List, [], ◌∷◌, ◌++◌, length, map, take, drop, Option, Some, None, refl, sym, ap, subst, ◌∙◌, arith}
-use Rattle.std.specs.Prelude.{nat_eq, bytes_eq}
+use Rattle.std.proofs.Common.{◌≡◌, ℕ, zero, suc, ◌<◌, ◌≤◌, Bool, true, false, cond, leb, List, [], ◌∷◌, ◌++◌, length, take, drop, Option, Some, None, refl, sym, ap, subst, ◌∙◌, arith}
+use Rattle.std.specs.Prelude.{bytes_eq}
 use Rattle.std.specs.List.{list_all, Contains}
 use Rattle.std.proofs.lemmas.Bool.{leb-true}
 use Rattle.std.proofs.lemmas.List.{length-append, length-take}
-use Rattle.iec_tables.specs.declared.fault.FaultCode.{FaultCode}
-use Rattle.iec_tables.specs.declared.fault.FaultCode.TheVariants.{BadByte}
 use Rattle.token_grammar.specs.declared.token.TokenKind.{TokenKind}
 use Rattle.st_lexer.specs.declared.front.Found.{Found}
 use Rattle.st_lexer.specs.declared.front.Found.TheVariants.{Token, Fault}
 use Rattle.st_lexer.specs.declared.bytes.Lead.{Lead}
-use Rattle.st_lexer.specs.Bytes.{is_white, begins}
+use Rattle.st_lexer.specs.Bytes.{is_white}
 use Rattle.st_lexer.specs.Texts as texts
 use Rattle.st_lexer.specs.Texts.{IsText, marks}
-use Rattle.st_lexer.specs.Faulty.{IsOpen, IsBadName, IsBadNumber, HasNoFault, IsBadByte, IsFaulty}
+use Rattle.st_lexer.specs.Faulty.{HasNoFault, IsFaulty}
 use Rattle.st_lexer.specs.Cut.{IsLongest, IsToken}
 use Rattle.st_lexer.specs.Front.{found_in, long_mark, short_mark, long_or, mark_at, lead_of}
-use Rattle.st_lexer.proofs.Tests.{same, equal, false_by, clash}
-use Rattle.st_lexer.proofs.Runs.{split_at, append_assoc_, cons_first, cons_rest}
+use Rattle.st_lexer.proofs.Tests.{same, equal, clash}
+use Rattle.st_lexer.proofs.Runs.{split_at, cons_first, cons_rest}
 use Rattle.st_lexer.proofs.Leads.{each_row}
 use Rattle.st_lexer.proofs.LeadTexts.{may_open, may_name, may_number, open_lead, name_lead, number_lead, text_some}
 

@@ -1,11 +1,11 @@
 -- The parts of a time, read one after the other.
-use Rattle.std.proofs.Common.{◌≡◌, ℕ, zero, suc, ◌+◌, ◌-◌, ◌*◌, ◌^◌, ◌<◌, ◌≤◌, Bool, true, false, ◌&&◌, cond, leb, ltb, List, [], ◌∷◌, length, take, drop, Option, Some, None, refl, sym, ap, ◌∙◌, arith}
+use Rattle.std.proofs.Common.{◌≡◌, ℕ, zero, suc, ◌+◌, ◌-◌, ◌^◌, ◌<◌, ◌≤◌, true, false, leb, ltb, List, length, take, drop, Option, Some, ap, ◌∙◌, arith}
 use Rattle.std.proofs.Math.Nat.{pow-succ'}
 use Rattle.std.proofs.lemmas.List.{length-drop, take_all}
 use Rattle.std.proofs.lemmas.Bool.{le-leb, lt-ltb}
 use Rattle.st_lexer.specs.declared.times.Part.{Part}
 use Rattle.st_lexer.specs.Bytes.{begins, in_word}
-use Rattle.st_lexer.specs.Front.{and_then, longer, part_at, parts_at, link_length}
+use Rattle.st_lexer.specs.Front.{longer, part_at, parts_at, link_length}
 
 pub ten_pos : (n : ℕ) → 0 < 10 ^ n
 ten_pos zero = omega arith

@@ -1,19 +1,18 @@
 -- What stands behind the `#` of a time.
-use Rattle.std.proofs.Common.{◌≡◌, ℕ, zero, suc, ◌+◌, ◌-◌, ◌^◌, ◌<◌, ◌≤◌, Bool, true, false, cond, not, ◌&&◌, ◌||◌, List, [], ◌∷◌, ◌++◌, length, map, take, drop, codes, Option, Some, None, refl, sym, ap, subst, ◌∙◌, arith}
+use Rattle.std.proofs.Common.{◌≡◌, ℕ, suc, ◌+◌, ◌-◌, ◌^◌, ◌<◌, ◌≤◌, Bool, true, false, cond, List, [], ◌∷◌, ◌++◌, length, map, take, drop, Some, None, refl, sym, ap, subst, ◌∙◌, arith}
 use Rattle.std.specs.Prelude.{nat_eq}
 use Rattle.std.proofs.lemmas.Bool.{eqb-true}
 use Rattle.std.proofs.lemmas.Bool.Decides.{nat_tests}
-use Rattle.std.proofs.lemmas.List.{length-append, length-drop, map-append}
+use Rattle.std.proofs.lemmas.List.{length-drop}
 use Rattle.iec_tables.specs.Letters.{raised}
 use Rattle.st_lexer.specs.Bytes.{is_digit, in_word, begins}
 use Rattle.st_lexer.specs.Times.{Part, ArePartsOf, IsPart, sum_of, greatest, sign_of}
 use Rattle.st_lexer.specs.Front.{parts_at, longer, time_at, above_units}
-use Rattle.st_lexer.proofs.Tests.{clash}
 use Rattle.st_lexer.proofs.Leads.{TimeRest}
 use Rattle.st_lexer.proofs.Numerals.{longer_some}
 use Rattle.st_lexer.proofs.Raising.{all_twice, length_raised, take_raised, drop_raised, word_raised, time_raised}
 use Rattle.st_lexer.proofs.Durations.{IsRaised, unit_is}
-use Rattle.st_lexer.proofs.DurationParts.{Parts, parts_some, parts_bound, parts_found, parts_first}
+use Rattle.st_lexer.proofs.DurationParts.{parts_some, parts_bound, parts_found, parts_first}
 
 abbrev minus : List ℕ → Bool
 minus bytes = begins (nat_eq 45) bytes

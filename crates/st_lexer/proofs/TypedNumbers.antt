@@ -1,19 +1,17 @@
 -- Typed numbers: what is read behind the `#` is the rest of one, and each one is read.
-use Rattle.std.proofs.Common.{◌≡◌, ℕ, zero, suc, ◌+◌, ◌<◌, ◌≤◌, Bool, true, false, cond, not, ◌&&◌, ◌||◌, ◌⊎◌, inl, inr, List, [], ◌∷◌, ◌++◌, length, map, take, drop, codes, Option, Some, None, refl, sym, ap, subst, ◌∙◌, arith}
-use Rattle.std.specs.Prelude.{nat_eq, bytes_eq}
-use Rattle.std.specs.List.{list_all, prefix_len, Contains}
+use Rattle.std.proofs.Common.{◌≡◌, ℕ, suc, ◌+◌, ◌≤◌, Bool, true, false, cond, ◌&&◌, ◌||◌, ◌⊎◌, inl, inr, List, [], ◌∷◌, ◌++◌, length, take, drop, codes, Some, None, refl, sym, ap, subst, ◌∙◌, arith}
+use Rattle.std.specs.Prelude.{nat_eq}
+use Rattle.std.specs.List.{list_all}
 use Rattle.std.proofs.lemmas.Bool.Decides.{nat_tests}
-use Rattle.std.proofs.lemmas.List.{length-append}
-use Rattle.iec_tables.specs.Letters.{raised}
 use Rattle.st_lexer.specs.Bytes.{is_letter, is_digit, in_word, begins}
 use Rattle.st_lexer.specs.Texts.{is_word_of, IsNumber, IsSign}
 use Rattle.st_lexer.specs.Faulty.{EndsNumber}
 use Rattle.st_lexer.specs.Front.{number_at, is_sign, signed_at, truths, typed_at, longer, word_length}
-use Rattle.st_lexer.proofs.Tests.{same, both, clash, false_by}
-use Rattle.st_lexer.proofs.Runs.{run_within, run_stops, run_longest, Front, front_is, split_at, cons_first, cons_rest}
-use Rattle.st_lexer.proofs.Leads.{is_capital, word_among, capitals, first_letter, alphabetic_letter, letter_word, all_letters, TypedRest, number, truth, one_of_three}
+use Rattle.st_lexer.proofs.Tests.{both}
+use Rattle.st_lexer.proofs.Runs.{run_within, run_stops, run_longest, front_is, split_at}
+use Rattle.st_lexer.proofs.Leads.{is_capital, word_among, capitals, first_letter, all_letters, TypedRest, number, truth, one_of_three}
 use Rattle.st_lexer.proofs.LeadTexts.{number_first}
-use Rattle.st_lexer.proofs.Numerals.{NumberHere, number_some, number_bound, number_found, longer_some}
+use Rattle.st_lexer.proofs.Numerals.{number_some, number_bound, number_found, longer_some}
 
 -- ---- numbers with a sign
 

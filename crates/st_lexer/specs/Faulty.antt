@@ -7,7 +7,7 @@ use Rattle.iec_tables.specs.declared.fault.FaultCode.TheVariants.{NotUtf8, BadBy
 use Rattle.token_grammar.specs.declared.token.TokenKind.{TokenKind}
 use Rattle.st_lexer.specs.declared.comments.Style.{Style}
 use Rattle.st_lexer.specs.Bytes.{is_white, is_letter, is_digit, in_word, begins, is_spaced}
-use Rattle.st_lexer.specs.Texts.{opener, closes, is_word_of, type_words, IsSign, IsNumber, IsTyped, IsText}
+use Rattle.st_lexer.specs.Texts.{opener, closes, is_word_of, type_words, IsSign, IsNumber, IsText}
 use Rattle.st_lexer.specs.Times.{IsTime}
 
 -- ---- comments and pragmas that aren't closed

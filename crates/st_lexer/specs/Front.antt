@@ -1,9 +1,8 @@
 -- What stands at the front of a text, as functions: a step on the way from the code to the definition of the cut. Each function of the code answers what one of these
 -- does.
-use Rattle.std.specs.Prelude.{ℕ, zero, suc, ◌+◌, ◌-◌, ◌*◌, ◌/◌, ◌%◌, ◌^◌, Bool, true, false, not, ◌&&◌, ◌||◌, if◌then◌else◌, nat_eq, nat_le, nat_lt, bytes_eq, List, [], ◌∷◌, ◌++◌, length, map, take, drop, codes, Option, Some, None, option_map}
+use Rattle.std.specs.Prelude.{ℕ, zero, suc, ◌+◌, ◌-◌, ◌*◌, ◌/◌, ◌%◌, ◌^◌, Bool, true, false, not, ◌&&◌, ◌||◌, if◌then◌else◌, nat_eq, nat_le, nat_lt, bytes_eq, List, [], ◌∷◌, length, map, take, drop, codes, Option, Some, None}
 use Rattle.std.specs.List.{prefix_len}
 use Rattle.iec_tables.specs.Letters.{raised}
-use Rattle.iec_tables.specs.Words.{keyword_texts}
 use Rattle.iec_tables.specs.declared.fault.FaultCode.{FaultCode}
 use Rattle.iec_tables.specs.declared.fault.FaultCode.TheVariants.{BadByte, OpenComment, BadNumber, BadName}
 use Rattle.token_grammar.specs.declared.token.TokenKind.{TokenKind}
@@ -15,7 +14,7 @@ use Rattle.st_lexer.specs.declared.bytes.Lead.TheVariants as lead
 use Rattle.st_lexer.specs.declared.times.Part.{Part}
 use Rattle.st_lexer.specs.declared.comments.Style.{Style}
 use Rattle.st_lexer.specs.declared.comments.Style.TheVariants.{Parentheses, Slashes}
-use Rattle.st_lexer.specs.Bytes.{between, is_alphabetic, is_letter, is_digit, in_word, begins, worth, is_spaced}
+use Rattle.st_lexer.specs.Bytes.{is_alphabetic, is_letter, is_digit, in_word, begins, worth, is_spaced}
 use Rattle.st_lexer.specs.Texts.{closes, is_word_of, keywords, marks, type_words}
 use Rattle.st_lexer.specs.Times.{units}
 use Rattle.st_lexer.specs.Faulty.{is_fraction}

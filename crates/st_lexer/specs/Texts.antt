@@ -1,6 +1,6 @@
 -- The texts of tokens, kind by kind, each for itself. Source: the lexical elements of the standard (comments, identifiers, keywords, literals, directly
 -- represented variables, delimiters), narrowed to this profile. The code reads bytes from left to right and tells the kind as it goes.
-use Rattle.std.specs.Prelude.{◌≡◌, ◌⊎◌, ℕ, zero, suc, ◌+◌, ◌^◌, ◌<◌, true, false, not, Bool, ◌&&◌, if◌then◌else◌, nat_eq, bytes_eq, List, [], ◌∷◌, ◌++◌, length, map, codes, Option, Some, None}
+use Rattle.std.specs.Prelude.{◌≡◌, ℕ, zero, suc, ◌+◌, ◌^◌, ◌<◌, true, false, not, Bool, ◌&&◌, if◌then◌else◌, nat_eq, bytes_eq, List, [], ◌∷◌, ◌++◌, length, map, codes, Option, Some, None}
 use Rattle.std.specs.List.{list_all, list_any, Contains, zip}
 use Rattle.iec_tables.specs.Letters.{raised}
 use Rattle.iec_tables.specs.Words.{keyword_texts}
@@ -48,7 +48,7 @@ closes style depth (byte ∷ next ∷ bytes) =
     if is_pair (opener style) 42 byte next then behind 2 (closes style (suc depth) bytes)
     else (if is_pair 42 (closer style) byte next then shut depth (λ less. behind 2 (closes style less bytes)) else behind 1 (closes style depth (next ∷ bytes)))
 
--- A comment runs from `//` up to the end of the line, without the line feed, or from an opening mark to the mark that closes it.
+-- A comment runs from `//` up to the end of the line, without the line feed, or of the text, or from an opening mark to the mark that closes it.
 pub data IsComment (text : List ℕ) : Type 0 where
   to_line_end : (body : List ℕ) → text ≡ 47 ∷ 47 ∷ body → list_all (λ byte. not (nat_eq byte 10)) body ≡ true → IsComment text
   closed : (style : Style) (body : List ℕ) → text ≡ opener style ∷ 42 ∷ body → closes style 0 body ≡ Some (length body) → IsComment text
@@ -62,7 +62,7 @@ pub record IsPragma (text : List ℕ) : Type 0 where
 -- ---- words
 
 -- A name begins with a letter or an underscore and goes on with letters, digits and underscores, of which no two stand in a row and none at the end. It is
--- no reserved word.
+-- no reserved word and no name of a type.
 pub record IsName (text : List ℕ) : Type 0 where
   pub first : begins is_letter text ≡ true
   pub word : list_all in_word text ≡ true

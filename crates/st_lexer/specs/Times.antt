@@ -1,6 +1,6 @@
 -- The text of a time. Source: duration literals of the standard, narrowed to whole milliseconds in the range of TIME, which is this profile's. The code
 -- reads part after part.
-use Rattle.std.specs.Prelude.{◌≡◌, ℕ, ◌+◌, ◌-◌, ◌*◌, ◌/◌, ◌%◌, ◌^◌, ◌<◌, ◌≤◌, Bool, true, false, if◌then◌else◌, List, [], ◌∷◌, ◌++◌, length, map, codes, cond}
+use Rattle.std.specs.Prelude.{◌≡◌, ℕ, ◌+◌, ◌-◌, ◌*◌, ◌/◌, ◌%◌, ◌^◌, ◌<◌, ◌≤◌, Bool, true, if◌then◌else◌, List, [], ◌∷◌, ◌++◌, length, map, codes}
 use Rattle.std.specs.List.{list_all, Contains}
 use Rattle.iec_tables.specs.Letters.{raised}
 use Rattle.st_lexer.specs.Bytes.{is_digit, value_in}
@@ -33,7 +33,7 @@ scaled p = value_in 10 (p.whole ++ p.fraction) * p.size
 abbrev pub milliseconds : Part → ℕ
 milliseconds p = scaled p / 10 ^ length p.fraction
 
--- A part has a digit at least, up to 9 digits behind a dot, and is a whole number of milliseconds.
+-- A part has a digit at least, up to 9 digits behind a dot, and a unit of the table with its size, and is a whole number of milliseconds.
 pub record IsPart (p : Part) : Type 0 where
   pub some : 0 < length p.whole
   pub whole : list_all is_digit p.whole ≡ true

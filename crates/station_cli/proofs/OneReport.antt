@@ -6,12 +6,9 @@ use Rattle.std.proofs.lemmas.Option.{same_Some}
 use Rattle.interval_domain.proofs.OneGrid.{one_grid}
 use Rattle.token_grammar.specs.declared.token.Token.{Token}
 use Rattle.token_grammar.specs.Texts.{Lexeme}
-use Rattle.token_grammar.specs.Grammar.{IsLongest}
 use Rattle.token_grammar.proofs.OneFront.{one_rest}
-use Rattle.st_lexer.specs.Cut.{IsCut, IsFault}
 use Rattle.st_lexer.specs.Laws.{OneCut, OneFault, NotBoth}
 use Rattle.iec_tables.specs.declared.fault.FaultCode.{FaultCode}
-use Rattle.iec_tables.specs.declared.fault.FaultCode.TheVariants.{NotUtf8, BadByte, OpenComment, BadNumber, BadName, NotBuilt}
 use Rattle.st_tree.specs.declared.tree.Unit.{Unit as SourceUnit}
 use Rattle.st_tree.specs.declared.tree.SourceTree.{SourceTree}
 use Rattle.st_tree.specs.declared.code.TaskCode.{TaskCode}

@@ -1,6 +1,6 @@
 // Tokens of a text.
 
-/// The kind of a token: one for each reserved word and each mark.
+/// The kind of a token: comments, pragmas, names, the kinds of literals and addresses, and one kind for each reserved word, each name of a type and each mark.
 #[derive(Clone, Copy, Debug, PartialEq, Eq)]
 pub enum TokenKind {
     Comment,

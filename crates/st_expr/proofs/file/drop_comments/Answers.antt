@@ -1,6 +1,5 @@
-use Rattle.std.proofs.Common.{rules, ◌≡◌, Bool, List}
+use Rattle.std.proofs.Common.{rules}
 use Rattle.std.proofs.lemmas.List.Elements.{filter_from_retain}
-use Rattle.token_grammar.specs.declared.token.Token.{Token}
 use Rattle.st_expr.specs.FirstForm.{is_kept}
 use Rattle.st_expr.proofs.file.drop_comments.Goals as goal
 

@@ -1,6 +1,6 @@
 use Rattle.std.proofs.Common.{◌≡◌, ◌+◌, ◌<◌, List, ◌∷◌, ℕ, length, true, false, arith, ap, sym, ◌∙◌}
 use Rattle.st_lexer.specs.Texts.{behind, closes, is_pair, opener, closer}
-use Rattle.st_lexer.proofs.Closing.{opened, shut_at, passed, shut_last}
+use Rattle.st_lexer.proofs.Closing.{opened, shut_at, passed}
 use Rattle.st_lexer.proofs.comments.comment_length.Goals as goal
 
 pub more-preserved-then-is_pair : goal.more-preserved-then-is_pair

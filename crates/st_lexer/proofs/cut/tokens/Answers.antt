@@ -1,11 +1,10 @@
-use Rattle.std.proofs.Common.{◌≡◌, ◌≤◌, ◌<◌, ◌+◌, ◌-◌, ℕ, List, [], ◌∷◌, ◌++◌, inr, true, false, length, get_or, take, drop, refl, sym, ap, subst, ◌∙◌, arith}
-use Rattle.std.proofs.lemmas.List.{drop_more, length-drop, drop_all}
+use Rattle.std.proofs.Common.{◌≡◌, ◌+◌, ℕ, List, inr, true, get_or, drop, refl, sym, ap, subst, ◌∙◌, arith}
+use Rattle.std.proofs.lemmas.List.{drop_more, length-drop}
 use Rattle.std.specs.Result.{is_ok}
 use Rattle.st_lexer.specs.declared.front.Found.TheVariants as found
 use Rattle.st_lexer.specs.Bytes.{is_white}
-use Rattle.st_lexer.specs.Cut.{IsCutTo, CutTo, mark_length}
-use Rattle.st_lexer.specs.Front.{front}
-use Rattle.st_lexer.proofs.Standing.{Stands, StandsToken}
+use Rattle.st_lexer.specs.Cut.{IsCutTo, mark_length}
+use Rattle.st_lexer.proofs.Standing.{StandsToken}
 use Rattle.st_lexer.proofs.Durations.{drop_add}
 use Rattle.st_lexer.proofs.Cuts.{cut_white, cut_token, stands_at}
 use Rattle.st_lexer.proofs.cut.tokens.Goals as goal

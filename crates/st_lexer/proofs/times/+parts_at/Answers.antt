@@ -1,7 +1,6 @@
-use Rattle.std.proofs.Common.{◌≡◌, ◌<◌, ◌≤◌, ◌+◌, ◌-◌, ℕ, List, true, false, not, Option, Some, None, sym, ap, ◌∙◌, length, take, drop, arith}
-use Rattle.st_lexer.specs.declared.times.Part.{Part}
+use Rattle.std.proofs.Common.{◌≡◌, ◌+◌, ◌-◌, ℕ, true, false, Some, sym, ap, ◌∙◌, length, take, drop, arith}
 use Rattle.st_lexer.specs.Bytes.{begins, in_word}
-use Rattle.st_lexer.specs.Front.{part_at, parts_at, longer, link_length}
+use Rattle.st_lexer.specs.Front.{part_at, longer, link_length}
 use Rattle.st_lexer.proofs.TimeParts.{more_parts, to_end}
 use Rattle.st_lexer.proofs.times.+parts_at.Goals as goal
 

@@ -1,4 +1,3 @@
-use Rattle.std.proofs.Common.{◌<◌, ◌-◌, arith}
 use Rattle.st_lexer.proofs.TimeParts.{ten_pos}
 use Rattle.st_lexer.proofs.times.part_of.Goals as goal
 

@@ -1,4 +1,4 @@
-use Rattle.std.proofs.Common.{map, Some, None, ◌∙◌, sym, ap}
+use Rattle.std.proofs.Common.{map, ◌∙◌, sym, ap}
 use Rattle.iec_tables.specs.Letters.{raised}
 use Rattle.st_lexer.specs.Front.{word_kind, kind_or_name}
 use Rattle.st_lexer.proofs.Keywords.{kind_found, kind_missing, kind_past}

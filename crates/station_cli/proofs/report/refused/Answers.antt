@@ -1,4 +1,4 @@
-use Rattle.std.proofs.Common.{rules, ◌≡◌, ℕ, ◌≤◌, List, length, refl, ap, subst, ◌∙◌, arith}
+use Rattle.std.proofs.Common.{rules, ◌≡◌, ℕ, List, length, refl, ap, subst, ◌∙◌, arith}
 use Rattle.finding_spans.specs.Places.{IsPosition}
 use Rattle.finding_spans.specs.declared.report.Verdict.TheVariants as verdict
 use Rattle.station_cli.proofs.report.refused.Goals as goal

@@ -2,7 +2,6 @@ use Rattle.std.proofs.Common.{◌≡◌, ℕ, ◌≤◌, List, length, inl, inr,
 use Rattle.iec_tables.specs.declared.fault.FaultCode.{FaultCode}
 use Rattle.st_lexer.specs.Cut.{IsCut, IsFault}
 use Rattle.st_lexer.specs.Answers as lexer
-use Rattle.st_lexer.specs.declared.cut.LexFault.TheVariants as lexical
 use Rattle.st_expr.specs.FirstForm.{IsTree, IsRefused}
 use Rattle.st_expr.specs.Answers.{Refuses}
 use Rattle.st_expr.specs.declared.file.ParseFault.TheVariants.{At}

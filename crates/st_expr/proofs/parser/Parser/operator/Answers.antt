@@ -1,4 +1,4 @@
-use Rattle.std.proofs.Common.{true, suc, ap, ◌∙◌}
+use Rattle.std.proofs.Common.{true, ap, ◌∙◌}
 use Rattle.token_grammar.specs.declared.token.TokenKind.TheVariants.{Plus, Minus}
 use Rattle.token_grammar.specs.Texts.{lexeme}
 use Rattle.token_grammar.specs.Kinds.{is_kind}
