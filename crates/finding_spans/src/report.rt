@@ -1,8 +1,8 @@
 // The report as data.
 
+use iec_tables::fault::FaultCode;
 use iec_tables::kind::Kind;
 use sqlite_items::Items;
-use iec_tables::fault::FaultCode;
 use st_tree::Site;
 use station_ports::texts::Name;
 
