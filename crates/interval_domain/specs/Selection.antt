@@ -42,7 +42,7 @@ limit_row mn a mx = min_row (max_row a mn) mx
 abbrev pub given : Bool → Interval → Interval
 given test i = if test then i else Empty
 
--- SEL: the chosen ones joined. The first may be chosen where G may be 0, the second where G may be something else.
+-- SEL: the chosen ones joined, or empty where an operand is. The first may be chosen where G may be 0, the second where G may be something else.
 abbrev pub sel_row : (g in0 in1 : Interval) → Interval
 sel_row g in0 in1 =
     given (not (is_empty g || is_empty in0 || is_empty in1))

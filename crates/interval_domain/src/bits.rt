@@ -177,8 +177,8 @@ fn xor_of(x: i128, y: i128) -> i128
     (x as u128 ^ y as u128) as i128
 }
 
-// The least number of ones that is not below a number.
-fn ones_above(z: i128) -> i128
+/// The least number whose digits in base 2 are all 1 that is not below a number from 0 on: the upper bound of OR and XOR.
+pub fn ones_above(z: i128) -> i128
     requires { pos 0 ≤ℤ z }
     ensures value { result ≡ rows.ones_above z }
     ensures least { rows.IsOnesAbove z result }

@@ -6,7 +6,8 @@ use crate::interval::{Interval, meet};
 use iec_tables::elem::{Elem, high, low};
 use iec_tables::kind::Kind;
 
-/// What an operator gives: the least interval of all whole-number results, and its part in the range of the type.
+/// What an operator gives: the result, within the type, and the raw one, which alarms look at. Where results may leave the type, the raw one is the least
+/// interval of all whole-number results; for the other operators it is the result.
 #[derive(Clone, Copy, Debug, PartialEq, Eq)]
 pub struct Out {
     pub raw: Interval,
