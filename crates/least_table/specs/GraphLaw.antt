@@ -7,7 +7,7 @@ use Rattle.std.specs.Ordering.{int_cmp}
 use Rattle.std.specs.Int.{int_min, int_max}
 use Rattle.std.proofs.lemmas.Int.{ints, clamps, by_lt_z}
 use Rattle.std.proofs.lemmas.List.{length-replicate}
-use Rattle.interval_domain.specs.Interval.{Interval, Empty, Span, IsWithin, span, meet}
+use Rattle.interval_domain.specs.Interval.{Interval, Empty, Span, IsOrdered, IsWithin, span, meet}
 use Rattle.interval_domain.specs.Operators.{add_raw}
 use Rattle.interval_domain.specs.Stored.{span-ordered, span-reversed}
 use Rattle.interval_domain.proofs.Laws.{meet-within, larger-add}
@@ -41,6 +41,12 @@ cut_on_grid a b h k =
     (λ ordered. subst (λ (i : Interval). IsOnGrid numbers i) (sym (span-ordered a b ordered))
     (in_numbers a h (omega (arith, ints)), in_numbers b (omega (arith, ints)) k))
 
+cut_ordered : (a b : ℤ) → IsOrdered (span a b)
+cut_ordered a b =
+    by_lt_z b a
+    (λ below. subst (λ (i : Interval). IsOrdered i) (sym (span-reversed a b below)) tt)
+    (λ ordered. subst (λ (i : Interval). IsOrdered i) (sym (span-ordered a b ordered)) ordered)
+
 cut_within : (a b c d : ℤ) → c ≤ℤ a → b ≤ℤ d → IsWithin (span a b) (Span c d)
 cut_within a b c d h k =
     by_lt_z b a
@@ -50,6 +56,10 @@ cut_within a b c d h k =
 meet_on_grid : (i : Interval) → IsOnGrid numbers (meet i all_numbers)
 meet_on_grid Empty = tt
 meet_on_grid (Span a b) = cut_on_grid (int_max a (pos 0)) (int_min b (pos 7)) (omega (arith, ints, clamps)) (omega (arith, ints, clamps))
+
+meet_ordered : (i : Interval) → IsOrdered (meet i all_numbers)
+meet_ordered Empty = tt
+meet_ordered (Span a b) = cut_ordered (int_max a (pos 0)) (int_min b (pos 7))
 
 meet_in : (i : Interval) → IsWithin (meet i all_numbers) all_numbers
 meet_in Empty = tt
@@ -74,6 +84,11 @@ widest_on_grid zero node = tt
 widest_on_grid (suc nodes) zero = (in_numbers (pos 0) (omega (arith, ints)) (omega (arith, ints)), in_numbers (pos 7) (omega (arith, ints)) (omega (arith, ints)))
 widest_on_grid (suc nodes) (suc node) = widest_on_grid nodes node
 
+widest_ordered : (nodes node : ℕ) → IsOrdered (at (replicate nodes all_numbers) node)
+widest_ordered zero node = tt
+widest_ordered (suc nodes) zero = omega (arith, ints)
+widest_ordered (suc nodes) (suc node) = widest_ordered nodes node
+
 -- by whether the arc leads to the node
 gives_by : (P : Interval → Type 0) (b : Bool) (i : Interval) → P i → P Empty → P (if b then i else Empty)
 gives_by P true i p q = p
@@ -86,7 +101,11 @@ gives_more false i j w = tt
 pub graph_is_monotone : (nodes : ℕ) (arcs : List Arc) → IsMonotone (graph nodes arcs)
 graph_is_monotone nodes arcs = record {
   rising = rises;
+  widest_ordered = widest_ordered nodes;
   widest_on_grid = widest_on_grid nodes;
+  ordered = λ unit table u t node n.
+      let arc : Arc = get_or arcs unit (None, 0, pos 0) in
+      gives_by (λ (i : Interval). IsOrdered i) (nat_eq node arc.1) (moved (source arc.0 table) arc.2) (meet_ordered (add_raw (source arc.0 table) (Span arc.2 arc.2))) tt;
   on_grid = λ unit table u t node n.
       let arc : Arc = get_or arcs unit (None, 0, pos 0) in
       gives_by (λ (i : Interval). IsOnGrid numbers i) (nat_eq node arc.1) (moved (source arc.0 table) arc.2) (meet_on_grid (add_raw (source arc.0 table) (Span arc.2 arc.2))) tt;

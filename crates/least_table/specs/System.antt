@@ -5,7 +5,7 @@ use Rattle.std.specs.Prelude.{◌≡◌, ℕ, ◌<◌, List, length, get_or, ℤ
 use Rattle.std.specs.List.{Contains, filter, sum_by}
 use Rattle.std.specs.List.Sorted.{IsStrictlySortedBy}
 use Rattle.std.specs.Ordering.{int_cmp}
-use Rattle.interval_domain.specs.Interval.{Interval, Empty, Span, IsWithin, hull, holds}
+use Rattle.interval_domain.specs.Interval.{Interval, Empty, Span, IsOrdered, IsWithin, hull, holds}
 
 -- a table as contracts see it: the intervals of its entries
 abbrev pub Intervals : Type 0
@@ -26,6 +26,10 @@ at table entry = get_or table entry Empty
 abbrev pub AreWithin : List Interval → List Interval → Type 0
 AreWithin table other = (entry : ℕ) → IsWithin (at table entry) (at other entry)
 
+-- each is empty, or its low bound is at most its high one
+abbrev pub AreOrdered : List Interval → Type 0
+AreOrdered table = (entry : ℕ) → IsOrdered (at table entry)
+
 -- it is empty, or its bounds are numbers of the grid
 abbrev pub IsOnGrid : List ℤ → Interval → Type 0
 IsOnGrid grid Empty = Unit {0}
@@ -37,13 +41,16 @@ AreOnGrid grid table = (entry : ℕ) → IsOnGrid grid (at table entry)
 -- a table of the system: an interval for each entry, in its widest one
 pub record IsTable (m : Meaning) (table : List Interval) : Type 0 where
   pub entries : length table ≡ length m.widest
+  pub ordered : AreOrdered table
   pub within : AreWithin table m.widest
 
--- The law of a system. The grid rises, the widest intervals are on it, and so is what a unit gives under a table, which lies in the widest
+-- The law of a system. The grid rises; the widest intervals are ordered and on it, and so is what a unit gives under a table, which lies in the widest
 -- interval; and under a larger table no unit gives less.
 pub record IsMonotone (m : Meaning) : Type 0 where
   pub rising : IsStrictlySortedBy int_cmp m.grid
+  pub widest_ordered : AreOrdered m.widest
   pub widest_on_grid : AreOnGrid m.grid m.widest
+  pub ordered : (unit : ℕ) (table : List Interval) → unit < m.units → IsTable m table → (entry : ℕ) → entry < length m.widest → IsOrdered (m.gives unit table entry)
   pub on_grid : (unit : ℕ) (table : List Interval) → unit < m.units → IsTable m table → (entry : ℕ) → entry < length m.widest → IsOnGrid m.grid (m.gives unit table entry)
   pub within : (unit : ℕ) (table : List Interval) → unit < m.units → IsTable m table → (entry : ℕ) → entry < length m.widest → IsWithin (m.gives unit table entry) (at m.widest entry)
   pub larger : (unit : ℕ) (table other : List Interval) → unit < m.units → IsTable m table → IsTable m other → AreWithin table other → (entry : ℕ) → entry < length m.widest → IsWithin (m.gives unit table entry) (m.gives unit other entry)

@@ -209,7 +209,8 @@ const ANALYSED: [Row; 15] = [
 ];
 
 /// Texts that stop being of the first form, and where.
-const REFUSED: [(&str, &str, &str); 44] = [
+const REFUSED: [(&str, &str, &str); 45] = [
+    ("(* a (* b *)", "1:1", "3 OpenComment"),
     ("", "1:1", "8 NotBuilt"),
     (
         "PROGRAM P\nVAR n : INT; END_VAR\nIF n < 100 THEN n := n + 1; END_IF;\nEND_PROGRAM\n",
@@ -397,6 +398,18 @@ fn refused_texts(rt: HostRuntime) -> Result<(), Fail> {
         assert_eq!(rt; found.status, Status::Refused, "{text}");
         assert_eq!(rt; found.output.as_slice(), output.as_bytes(), "{text}");
     }
+    Ok(())
+}
+
+#[test]
+fn refused_bytes(rt: HostRuntime) -> Result<(), Fail> {
+    let found = result_over(&rt, &CHECK, b"~\xff", &[], &[])?;
+    assert_eq!(rt; found.status, Status::Refused);
+    assert_eq!(rt;
+        found.output.as_slice(),
+        b"VERDICT REFUSED a.st:1:2 1 NotUtf8\nEND open 0 waived 0\n".as_slice()
+    );
+    assert_eq!(rt; found.parsed, 0);
     Ok(())
 }
 
