@@ -9,8 +9,8 @@ use Rattle.interval_domain.specs.Operators.{range_of, add_raw, sub_raw, typed, i
 use Rattle.st_tree.specs.declared.code.Cell.{Cell}
 use Rattle.st_tree.specs.declared.code.Cell.TheVariants.{Own, Shared}
 use Rattle.st_tree.specs.declared.code.Operation.{Operation}
-use Rattle.st_tree.specs.declared.tree.Operator.{Operator}
-use Rattle.st_tree.specs.declared.tree.Operator.TheVariants.{Add, Subtract}
+use Rattle.st_tree.specs.declared.code.Operator.{Operator}
+use Rattle.st_tree.specs.declared.code.Operator.TheVariants.{Add, Subtract}
 use Rattle.st_tree.specs.declared.node.Site.{Site}
 use Rattle.st_tree.specs.Code.{Instructions, Done, Literal, Read, Operate, Write}
 use Rattle.cycle_analysis.specs.declared.task_pass.Value.{Value}

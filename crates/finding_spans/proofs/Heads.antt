@@ -2,12 +2,12 @@
 use Rattle.std.proofs.Common.{◌≡◌, List, [], ◌∷◌, ◌++◌, refl}
 use Rattle.std.specs.Prelude.{map, flat_map}
 use Rattle.st_tree.specs.declared.node.Node.{Node}
-use Rattle.st_tree.specs.declared.tree.Stmt.{Stmt}
-use Rattle.st_tree.specs.declared.tree.Stmt.TheVariants.{Assign}
-use Rattle.st_tree.specs.declared.tree.Decl.{Decl}
-use Rattle.st_tree.specs.declared.tree.Section.{Section}
-use Rattle.st_tree.specs.declared.tree.Unit.{Unit as SourceUnit}
-use Rattle.st_tree.specs.Nodes.{path_nodes, expr_nodes, stmt_nodes, name_node, decl_nodes, section_nodes, unit_nodes}
+use Rattle.first_form.specs.declared.tree.Stmt.{Stmt}
+use Rattle.first_form.specs.declared.tree.Stmt.TheVariants.{Assign}
+use Rattle.first_form.specs.declared.tree.Decl.{Decl}
+use Rattle.first_form.specs.declared.tree.Section.{Section}
+use Rattle.first_form.specs.declared.tree.Unit.{Unit as SourceUnit}
+use Rattle.first_form.specs.Nodes.{path_nodes, expr_nodes, stmt_nodes, name_node, decl_nodes, section_nodes, unit_nodes}
 use Rattle.finding_spans.specs.Places.{stmt_node}
 
 abbrev pub stmt_rest : Stmt → List Node

@@ -7,12 +7,12 @@ use Rattle.std.proofs.lemmas.List.Concat.{flat_map_single}
 use Rattle.std.proofs.lemmas.List.Elements.{filter-append}
 use Rattle.st_tree.specs.declared.node.Node.{Node}
 use Rattle.st_tree.specs.declared.node.NodeNo.{NodeNo}
-use Rattle.st_tree.specs.declared.tree.Stmt.{Stmt}
-use Rattle.st_tree.specs.declared.tree.Decl.{Decl}
-use Rattle.st_tree.specs.declared.tree.Section.{Section}
-use Rattle.st_tree.specs.declared.tree.Unit.{Unit as SourceUnit}
-use Rattle.st_tree.specs.declared.tree.SourceTree.{SourceTree}
-use Rattle.st_tree.specs.Nodes.{IsNumbered, stmt_nodes, decl_nodes, section_nodes, unit_nodes, nodes_of}
+use Rattle.first_form.specs.declared.tree.Stmt.{Stmt}
+use Rattle.first_form.specs.declared.tree.Decl.{Decl}
+use Rattle.first_form.specs.declared.tree.Section.{Section}
+use Rattle.first_form.specs.declared.tree.Unit.{Unit as SourceUnit}
+use Rattle.first_form.specs.declared.tree.SourceTree.{SourceTree}
+use Rattle.first_form.specs.Nodes.{IsNumbered, stmt_nodes, decl_nodes, section_nodes, unit_nodes, nodes_of}
 use Rattle.finding_spans.specs.Places.{Holder, has_number, decl_holders, stmt_node, stmt_holder, unit_holders, holds, last_of, holder_of}
 use Rattle.finding_spans.specs.Searches.{IsAmong}
 use Rattle.finding_spans.proofs.Numbers.{apart, has_of_numbers}

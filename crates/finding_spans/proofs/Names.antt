@@ -8,13 +8,13 @@ use Rattle.std.specs.List.Sorted.{IsNonDecreasingBy, IsPartitionedBy, IsPartitio
 use Rattle.std.proofs.lemmas.List.Sorted.{IsPartitionedBy-ltb}
 use Rattle.st_tree.specs.declared.node.Node.{Node}
 use Rattle.st_tree.specs.declared.node.NodeNo.{NodeNo}
-use Rattle.st_tree.specs.declared.tree.Identifier.{Identifier}
-use Rattle.st_tree.specs.declared.tree.Decl.{Decl}
-use Rattle.st_tree.specs.Nodes.{CountsFrom, name_node, decl_nodes}
+use Rattle.first_form.specs.declared.tree.Identifier.{Identifier}
+use Rattle.first_form.specs.declared.tree.Decl.{Decl}
+use Rattle.first_form.specs.Nodes.{CountsFrom, name_node, decl_nodes}
 use Rattle.finding_spans.specs.Places.{Holder, has_number, alone, name_holders, decl_holders, holds, last_of}
 use Rattle.finding_spans.specs.Searches.{IsAmong}
 use Rattle.finding_spans.proofs.Points.{point_is, rising_cons}
-use Rattle.st_tree.proofs.Parts.{counts_left}
+use Rattle.first_form.proofs.Parts.{counts_left}
 use Rattle.finding_spans.proofs.Numbers.{has_in, has_not, contains_cases}
 use Rattle.finding_spans.proofs.Parts.{has_append}
 

@@ -6,14 +6,14 @@ use Rattle.std.proofs.lemmas.Bool.{or_right, both_ways, cases_lt}
 use Rattle.std.proofs.lemmas.List.{length-append}
 use Rattle.st_tree.specs.declared.node.Node.{Node}
 use Rattle.st_tree.specs.declared.node.NodeNo.{NodeNo}
-use Rattle.st_tree.specs.declared.tree.Stmt.{Stmt}
-use Rattle.st_tree.specs.declared.tree.Section.{Section}
-use Rattle.st_tree.specs.declared.tree.Unit.{Unit as SourceUnit}
-use Rattle.st_tree.specs.declared.tree.SourceTree.{SourceTree}
-use Rattle.st_tree.specs.Nodes.{CountsFrom, IsNumbered, stmt_nodes, decl_nodes, section_nodes, unit_nodes, nodes_of}
+use Rattle.first_form.specs.declared.tree.Stmt.{Stmt}
+use Rattle.first_form.specs.declared.tree.Section.{Section}
+use Rattle.first_form.specs.declared.tree.Unit.{Unit as SourceUnit}
+use Rattle.first_form.specs.declared.tree.SourceTree.{SourceTree}
+use Rattle.first_form.specs.Nodes.{CountsFrom, IsNumbered, stmt_nodes, decl_nodes, section_nodes, unit_nodes, nodes_of}
 use Rattle.finding_spans.specs.Places.{has_number}
 use Rattle.finding_spans.specs.Searches.{IsAmong}
-use Rattle.st_tree.proofs.Parts.{counts_left, counts_right}
+use Rattle.first_form.proofs.Parts.{counts_left, counts_right}
 use Rattle.finding_spans.proofs.Numbers.{has_in, has_from, has_of_numbers}
 use Rattle.finding_spans.proofs.Parts.{has_append, has_part, found, part_of}
 

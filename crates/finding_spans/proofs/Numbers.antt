@@ -4,8 +4,8 @@ use Rattle.std.proofs.lemmas.Bool.{false≢true, or_cases, or_left, or_right, eq
 use Rattle.std.specs.Prelude.{map, Contains, nat_eq}
 use Rattle.st_tree.specs.declared.node.Node.{Node}
 use Rattle.st_tree.specs.declared.node.NodeNo.{NodeNo}
-use Rattle.st_tree.specs.Nodes.{CountsFrom}
-use Rattle.st_tree.proofs.Parts.{counts_left, counts_right}
+use Rattle.first_form.specs.Nodes.{CountsFrom}
+use Rattle.first_form.proofs.Parts.{counts_left, counts_right}
 use Rattle.finding_spans.specs.Places.{has_number}
 
 -- the numbers of a list are those from its first one on

@@ -11,11 +11,11 @@ use Rattle.std.specs.List.Sorted.{IsNonDecreasingBy, IsPartitionedBy, IsPartitio
 use Rattle.std.proofs.lemmas.List.Sorted.{IsPartitionedBy-leb}
 use Rattle.st_tree.specs.declared.node.Node.{Node}
 use Rattle.st_tree.specs.declared.node.NodeNo.{NodeNo}
-use Rattle.st_tree.specs.Nodes.{CountsFrom}
+use Rattle.first_form.specs.Nodes.{CountsFrom}
 use Rattle.finding_spans.specs.Places.{Holder, has_number, holds}
 use Rattle.finding_spans.specs.Searches.{IsAmong, last_of_first}
 use Rattle.finding_spans.proofs.Points.{point_is, rising_cons}
-use Rattle.st_tree.proofs.Parts.{counts_left, counts_right}
+use Rattle.first_form.proofs.Parts.{counts_left, counts_right}
 use Rattle.finding_spans.proofs.Numbers.{has_from, has_not, has_beyond, apart, contains_cases}
 
 pub has_append : (number : NodeNo) (xs ys : List Node) (b c : Bool) → has_number number xs ≡ b → has_number number ys ≡ c → has_number number (xs ++ ys) ≡ (b || c)

@@ -4,12 +4,12 @@ use Rattle.std.specs.Prelude.{◌≡◌, ◌⊎◌, ℕ, ◌+◌, Bool, nat_eq, 
 use Rattle.std.specs.List.{list_any, filter}
 use Rattle.st_tree.specs.declared.node.Node.{Node}
 use Rattle.st_tree.specs.declared.node.NodeNo.{NodeNo}
-use Rattle.st_tree.specs.declared.tree.Stmt.{Stmt}
-use Rattle.st_tree.specs.declared.tree.Stmt.TheVariants.{Assign}
-use Rattle.st_tree.specs.declared.tree.Decl.{Decl}
-use Rattle.st_tree.specs.declared.tree.Unit.{Unit as SourceUnit}
-use Rattle.st_tree.specs.declared.tree.SourceTree.{SourceTree}
-use Rattle.st_tree.specs.Nodes.{stmt_nodes, decl_nodes, unit_nodes, name_node}
+use Rattle.first_form.specs.declared.tree.Stmt.{Stmt}
+use Rattle.first_form.specs.declared.tree.Stmt.TheVariants.{Assign}
+use Rattle.first_form.specs.declared.tree.Decl.{Decl}
+use Rattle.first_form.specs.declared.tree.Unit.{Unit as SourceUnit}
+use Rattle.first_form.specs.declared.tree.SourceTree.{SourceTree}
+use Rattle.first_form.specs.Nodes.{stmt_nodes, decl_nodes, unit_nodes, name_node}
 
 -- ---- positions: lines count line feeds, columns bytes, both from 1
 

@@ -3,7 +3,7 @@
 use Rattle.std.specs.Prelude.{◌≡◌, ℕ, zero, suc, true, List, Option, None, slice_get}
 use Rattle.st_tree.specs.declared.node.Node.{Node}
 use Rattle.st_tree.specs.declared.node.NodeNo.{NodeNo}
-use Rattle.st_tree.specs.Nodes.{CountsFrom}
+use Rattle.first_form.specs.Nodes.{CountsFrom}
 use Rattle.finding_spans.specs.Places.{has_number}
 
 -- The nodes are numbered one after the other, and the node of that number is one of them.

@@ -3,14 +3,15 @@
 ghost use Rattle.std.specs.Prelude.{◌≡◌, ◌≤◌, ◌<◌, ℕ, ◌+◌, true, false, List, [], ◌∷◌, ◌++◌, length, map, flat_map, Contains, Some, IsSomeAnd};
 ghost use Rattle.std.specs.List.{find, filter};
 ghost use Rattle.std.specs.Option.{option_copied};
-ghost use Rattle.st_tree.specs.declared.tree.Unit.{Unit as SourceUnit};
-ghost use Rattle.st_tree.specs.declared.tree.Stmt.{Stmt as Statement};
-ghost use Rattle.st_tree.specs.Feeds.{feeds_from};
-ghost use Rattle.st_tree.specs.Nodes.{IsNumbered, nodes_of, unit_nodes, stmt_nodes, section_nodes, decl_nodes};
+ghost use Rattle.first_form.specs.declared.tree.Unit.{Unit as SourceUnit};
+ghost use Rattle.first_form.specs.declared.tree.Stmt.{Stmt as Statement};
+ghost use Rattle.first_form.specs.Feeds.{feeds_from};
+ghost use Rattle.first_form.specs.Nodes.{IsNumbered, nodes_of, unit_nodes, stmt_nodes, section_nodes, decl_nodes};
 ghost use Rattle.finding_spans.specs.Places.{IsPosition, IsBehind, IsReportedAt, has_number, holds, last_of, holder_of, decl_holders, unit_holders, stmt_node};
 ghost use Rattle.finding_spans.specs.Searches.{IsAmong, last_of_first};
 
-use st_tree::{Decl, Node, NodeNo, Section, SourceTree, Stmt, Unit};
+use first_form::{Decl, Section, SourceTree, Stmt, Unit};
+use st_tree::{Node, NodeNo};
 
 /// A line and a column, counted from 1. Lines count line feeds, columns bytes.
 #[derive(Clone, Copy, Debug, PartialEq, Eq)]

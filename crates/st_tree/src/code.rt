@@ -2,7 +2,6 @@
 // is taken.
 
 use crate::node::Site;
-use crate::tree::Operator;
 use iec_tables::elem::Elem;
 use sqlite_items::Items;
 use station_ports::texts::Name;
@@ -12,6 +11,13 @@ use station_ports::texts::Name;
 pub enum Cell {
     Own(usize),
     Shared(usize),
+}
+
+/// A binary operator.
+#[derive(Clone, Copy, Debug, PartialEq, Eq)]
+pub enum Operator {
+    Add,
+    Subtract,
 }
 
 /// An operator at its node, with the type of its result.

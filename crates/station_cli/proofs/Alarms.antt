@@ -11,8 +11,8 @@ use Rattle.iec_tables.specs.declared.kind.Kind.{Kind}
 use Rattle.interval_domain.specs.Interval.{Interval, Span, IsWithin}
 use Rattle.st_tree.specs.declared.node.Site.{Site}
 use Rattle.st_tree.specs.declared.hit.Hit.{Hit}
-use Rattle.st_tree.specs.declared.tree.Unit.{Unit as SourceUnit}
-use Rattle.st_tree.specs.declared.tree.SourceTree.{SourceTree}
+use Rattle.first_form.specs.declared.tree.Unit.{Unit as SourceUnit}
+use Rattle.first_form.specs.declared.tree.SourceTree.{SourceTree}
 use Rattle.finding_spans.specs.declared.report.Alarm.{Alarm}
 use Rattle.finding_spans.specs.declared.report.Entry.{Entry}
 use Rattle.finding_spans.specs.Places.{IsReportedAt}

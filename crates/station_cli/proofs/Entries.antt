@@ -4,8 +4,8 @@ use Rattle.std.specs.List.{AllByRecursion, AllZip}
 use Rattle.std.proofs.lemmas.List.{take_more}
 use Rattle.std.proofs.lemmas.Slice.Zip.{all_zipped_more}
 use Rattle.st_tree.specs.declared.hit.Hit.{Hit}
-use Rattle.st_tree.specs.declared.tree.Unit.{Unit as SourceUnit}
-use Rattle.st_tree.specs.declared.tree.SourceTree.{SourceTree}
+use Rattle.first_form.specs.declared.tree.Unit.{Unit as SourceUnit}
+use Rattle.first_form.specs.declared.tree.SourceTree.{SourceTree}
 use Rattle.finding_spans.specs.declared.report.Alarm.{Alarm}
 use Rattle.finding_spans.specs.declared.report.Entry.{Entry}
 use Rattle.station_cli.specs.Lines.{AreEntriesOf, IsEntryOf, IsInBody}

@@ -6,13 +6,13 @@ use Rattle.std.proofs.lemmas.Option.{same_Some, none-some}
 use Rattle.std.proofs.lemmas.List.Elements.{Contains-append_left, Contains-append_right}
 use Rattle.st_tree.specs.declared.node.Node.{Node}
 use Rattle.st_tree.specs.declared.node.NodeNo.{NodeNo}
-use Rattle.st_tree.specs.declared.tree.Stmt.{Stmt}
-use Rattle.st_tree.specs.declared.tree.Stmt.TheVariants.{Assign}
-use Rattle.st_tree.specs.declared.tree.Decl.{Decl}
-use Rattle.st_tree.specs.declared.tree.Section.{Section}
-use Rattle.st_tree.specs.declared.tree.Unit.{Unit as SourceUnit}
-use Rattle.st_tree.specs.declared.tree.SourceTree.{SourceTree}
-use Rattle.st_tree.specs.Nodes.{stmt_nodes, name_node, decl_nodes, section_nodes, unit_nodes, nodes_of}
+use Rattle.first_form.specs.declared.tree.Stmt.{Stmt}
+use Rattle.first_form.specs.declared.tree.Stmt.TheVariants.{Assign}
+use Rattle.first_form.specs.declared.tree.Decl.{Decl}
+use Rattle.first_form.specs.declared.tree.Section.{Section}
+use Rattle.first_form.specs.declared.tree.Unit.{Unit as SourceUnit}
+use Rattle.first_form.specs.declared.tree.SourceTree.{SourceTree}
+use Rattle.first_form.specs.Nodes.{stmt_nodes, name_node, decl_nodes, section_nodes, unit_nodes, nodes_of}
 use Rattle.finding_spans.specs.Places.{Holder, alone, name_holders, decl_holders, stmt_holder, unit_holders, holds, last_of, holder_of, IsReportedAt}
 use Rattle.task_config.proofs.Lists.{all_weaker, all_append}
 use Rattle.cycle_analysis.proofs.Lists.{later_in}

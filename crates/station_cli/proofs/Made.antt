@@ -6,13 +6,13 @@ use Rattle.std.specs.List.Sorted.{IsPermutation}
 use Rattle.interval_domain.specs.Grid.{IsGrid}
 use Rattle.st_tree.specs.declared.node.Site.{Site}
 use Rattle.st_tree.specs.declared.hit.Hit.{Hit}
-use Rattle.st_tree.specs.declared.tree.Unit.{Unit as SourceUnit}
-use Rattle.st_tree.specs.declared.tree.SourceTree.{SourceTree}
+use Rattle.first_form.specs.declared.tree.Unit.{Unit as SourceUnit}
+use Rattle.first_form.specs.declared.tree.SourceTree.{SourceTree}
 use Rattle.st_tree.specs.declared.code.TaskCode.{TaskCode}
 use Rattle.st_tree.specs.declared.code.Component.{Component}
 use Rattle.st_tree.specs.Code.{reading}
-use Rattle.st_tree.specs.Names.{unit_names}
-use Rattle.st_tree.specs.Nodes.{section_nodes, stmt_nodes, unit_nodes, CountsFrom, IsNumbered}
+use Rattle.first_form.specs.Names.{unit_names}
+use Rattle.first_form.specs.Nodes.{section_nodes, stmt_nodes, unit_nodes, CountsFrom, IsNumbered}
 use Rattle.st_tree.specs.Writes.{WritesCells}
 use Rattle.finding_spans.specs.declared.report.Alarm.{Alarm}
 use Rattle.finding_spans.specs.declared.report.Entry.{Entry}
@@ -21,7 +21,7 @@ use Rattle.finding_spans.specs.declared.report.Refusal.{Refusal}
 use Rattle.finding_spans.specs.declared.report.Report.{Report}
 use Rattle.finding_spans.specs.declared.report.Verdict.TheVariants as verdict
 use Rattle.task_config.specs.Plan.{IsComponent, IsTask}
-use Rattle.st_tree.proofs.Parts.{counts_left, counts_right}
+use Rattle.first_form.proofs.Parts.{counts_left, counts_right}
 use Rattle.task_config.proofs.Apart.{one_node, operators_apart}
 use Rattle.task_config.proofs.Held.{IsHeld, operators_held}
 use Rattle.cycle_analysis.specs.declared.solution.Solution.{Solution}

@@ -9,9 +9,9 @@ use Rattle.interval_domain.proofs.OneGrid.{Rises, one_rising}
 use Rattle.st_tree.specs.declared.node.Node.{Node}
 use Rattle.st_tree.specs.declared.node.NodeNo.{NodeNo}
 use Rattle.st_tree.specs.declared.node.Site.{Site}
-use Rattle.st_tree.specs.declared.tree.Unit.{Unit as SourceUnit}
-use Rattle.st_tree.specs.declared.tree.SourceTree.{SourceTree}
-use Rattle.st_tree.specs.Nodes.{IsNumbered, stmt_nodes}
+use Rattle.first_form.specs.declared.tree.Unit.{Unit as SourceUnit}
+use Rattle.first_form.specs.declared.tree.SourceTree.{SourceTree}
+use Rattle.first_form.specs.Nodes.{IsNumbered, stmt_nodes}
 use Rattle.finding_spans.specs.Places.{IsReportedAt}
 use Rattle.finding_spans.specs.declared.report.Alarm.{Alarm}
 use Rattle.finding_spans.specs.declared.report.Entry.{Entry}

@@ -6,17 +6,17 @@ use Rattle.std.proofs.lemmas.Option.{same_Some}
 use Rattle.interval_domain.proofs.OneGrid.{one_grid}
 use Rattle.token_grammar.specs.declared.token.Token.{Token}
 use Rattle.token_grammar.specs.Texts.{Lexeme}
-use Rattle.token_grammar.proofs.OneFront.{one_rest}
+use Rattle.first_form.proofs.laws.OneFront.{one_rest}
 use Rattle.st_lexer.specs.Laws.{OneCut, OneFault, NotBoth}
 use Rattle.iec_tables.specs.declared.fault.FaultCode.{FaultCode}
-use Rattle.st_tree.specs.declared.tree.Unit.{Unit as SourceUnit}
-use Rattle.st_tree.specs.declared.tree.SourceTree.{SourceTree}
+use Rattle.first_form.specs.declared.tree.Unit.{Unit as SourceUnit}
+use Rattle.first_form.specs.declared.tree.SourceTree.{SourceTree}
 use Rattle.st_tree.specs.declared.code.TaskCode.{TaskCode}
 use Rattle.st_tree.specs.declared.code.Component.{Component}
 use Rattle.st_tree.specs.Code.{reading}
-use Rattle.st_tree.specs.Nodes.{IsNumbered}
-use Rattle.st_expr.specs.FirstForm.{program, place_at, words_of, IsTree, IsRefused}
-use Rattle.st_expr.specs.Laws.{OneTree}
+use Rattle.first_form.specs.Nodes.{IsNumbered}
+use Rattle.first_form.specs.FirstForm.{program, place_at, words_of, IsTree, IsRefused}
+use Rattle.first_form.specs.Laws.{OneTree}
 use Rattle.task_config.specs.Plan.{IsTask, IsComponent}
 use Rattle.cycle_analysis.specs.Pass.{Entry as Told, Passed}
 use Rattle.cycle_analysis.specs.Table.{Part, pass_of, IsSolution}

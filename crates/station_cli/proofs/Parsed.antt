@@ -4,10 +4,10 @@ use Rattle.std.specs.List.{Contains, filter}
 use Rattle.token_grammar.specs.declared.token.Token.{Token}
 use Rattle.token_grammar.specs.Texts.{Lexeme, lexeme, lexemes}
 use Rattle.st_lexer.specs.Placed.{IsIn}
-use Rattle.st_expr.specs.FirstForm.{IsTree, IsRefused, is_kept, place_at}
-use Rattle.st_expr.specs.Laws.{AreIn, SoundTree}
-use Rattle.st_expr.proofs.Spelled.{kept_among}
-use Rattle.st_tree.specs.declared.tree.SourceTree.{SourceTree}
+use Rattle.first_form.specs.FirstForm.{IsTree, IsRefused, is_kept, place_at}
+use Rattle.first_form.specs.Laws.{AreIn, SoundTree}
+use Rattle.first_form.proofs.Spelled.{kept_among}
+use Rattle.first_form.specs.declared.tree.SourceTree.{SourceTree}
 use Rattle.station_cli.specs.Parsing.{IsAnalysable}
 use Rattle.cycle_analysis.proofs.Lists.{later_in}
 

@@ -4,10 +4,10 @@ use Rattle.std.specs.Prelude.{flat_map, option_map, position, bytes_eq}
 use Rattle.std.proofs.lemmas.Option.{same_Some, none-some, option_and_then_some}
 use Rattle.iec_tables.specs.declared.elem.Elem.TheVariants as elem
 use Rattle.st_tree.specs.declared.node.Site.{Site}
-use Rattle.st_tree.specs.declared.tree.Expr.{Expr, more_of-Expr, end_of-Expr}
-use Rattle.st_tree.specs.declared.tree.Expr.TheVariants as expr
-use Rattle.st_tree.specs.declared.tree.Stmt.{Stmt}
-use Rattle.st_tree.specs.declared.tree.Stmt.TheVariants.{Assign}
+use Rattle.first_form.specs.declared.tree.Expr.{Expr, more_of-Expr, end_of-Expr}
+use Rattle.first_form.specs.declared.tree.Expr.TheVariants as expr
+use Rattle.first_form.specs.declared.tree.Stmt.{Stmt}
+use Rattle.first_form.specs.declared.tree.Stmt.TheVariants.{Assign}
 use Rattle.st_tree.specs.declared.code.Cell.{Cell}
 use Rattle.st_tree.specs.declared.code.Cell.TheVariants.{Own}
 use Rattle.st_tree.specs.Code.{Instructions, Read, Operate, Write}

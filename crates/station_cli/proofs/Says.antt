@@ -11,10 +11,10 @@ use Rattle.station_ports.specs.Calls.{Puts, IsContent}
 use Rattle.station_ports.specs.declared.outside.PutRefusal.{PutRefusal}
 use Rattle.station_ports.specs.declared.outside.PutRefusal.TheVariants as refusal
 use Rattle.token_grammar.specs.declared.token.Token.{Token}
-use Rattle.st_tree.specs.declared.tree.Unit.{Unit as SourceUnit}
+use Rattle.first_form.specs.declared.tree.Unit.{Unit as SourceUnit}
 use Rattle.st_tree.specs.declared.code.Component.{Component}
-use Rattle.st_expr.specs.FirstForm.{IsTree}
-use Rattle.st_expr.specs.Laws.{OneTree}
+use Rattle.first_form.specs.FirstForm.{IsTree}
+use Rattle.first_form.specs.Laws.{OneTree}
 use Rattle.task_config.specs.Plan.{IsComponent}
 use Rattle.task_meaning.specs.Meaning.{Move, Outcome, Continues, Faulty, start, run}
 use Rattle.task_config.proofs.Planned.{component_steady}

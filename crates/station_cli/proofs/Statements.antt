@@ -4,10 +4,10 @@ use Rattle.std.specs.Prelude.{map, flat_map}
 use Rattle.std.specs.List.{Contains}
 use Rattle.st_tree.specs.declared.node.Node.{Node}
 use Rattle.st_tree.specs.declared.node.NodeNo.{NodeNo}
-use Rattle.st_tree.specs.declared.tree.Stmt.{Stmt}
-use Rattle.st_tree.specs.declared.tree.Unit.{Unit as SourceUnit}
-use Rattle.st_tree.specs.declared.tree.SourceTree.{SourceTree}
-use Rattle.st_tree.specs.Nodes.{stmt_nodes, section_nodes, unit_nodes, nodes_of}
+use Rattle.first_form.specs.declared.tree.Stmt.{Stmt}
+use Rattle.first_form.specs.declared.tree.Unit.{Unit as SourceUnit}
+use Rattle.first_form.specs.declared.tree.SourceTree.{SourceTree}
+use Rattle.first_form.specs.Nodes.{stmt_nodes, section_nodes, unit_nodes, nodes_of}
 use Rattle.task_config.proofs.Held.{numbers_more, numbers_less}
 use Rattle.station_cli.specs.Lines.{IsInBody}
 use Rattle.cycle_analysis.proofs.Lists.{in_cases}

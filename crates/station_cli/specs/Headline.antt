@@ -8,12 +8,12 @@ use Rattle.interval_domain.specs.Operators.{kept}
 use Rattle.token_grammar.specs.declared.token.Token.{Token}
 use Rattle.st_lexer.specs.Cut.{IsCut}
 use Rattle.st_tree.specs.declared.node.Site.{Site}
-use Rattle.st_tree.specs.declared.tree.Unit.{Unit as SourceUnit}
-use Rattle.st_tree.specs.declared.tree.SourceTree.{SourceTree}
+use Rattle.first_form.specs.declared.tree.Unit.{Unit as SourceUnit}
+use Rattle.first_form.specs.declared.tree.SourceTree.{SourceTree}
 use Rattle.st_tree.specs.declared.code.CellInfo.{CellInfo}
 use Rattle.st_tree.specs.declared.code.TaskCode.{TaskCode}
 use Rattle.st_tree.specs.declared.code.Component.{Component}
-use Rattle.st_expr.specs.FirstForm.{IsTree}
+use Rattle.first_form.specs.FirstForm.{IsTree}
 use Rattle.task_config.specs.Plan.{IsComponent}
 use Rattle.task_meaning.specs.Meaning.{State, TaskState, Numbers, Move, Outcome, Continues, Faulty, start, run}
 use Rattle.cycle_analysis.specs.Steady.{NoneWaits}

@@ -4,11 +4,11 @@ use Rattle.std.specs.List.{AllZip, Contains}
 use Rattle.interval_domain.specs.Interval.{Interval, Empty, Span}
 use Rattle.st_tree.specs.declared.node.NodeNo.{NodeNo}
 use Rattle.st_tree.specs.declared.hit.Hit.{Hit}
-use Rattle.st_tree.specs.declared.tree.Stmt.{Stmt}
-use Rattle.st_tree.specs.declared.tree.Unit.{Unit as SourceUnit}
-use Rattle.st_tree.specs.declared.tree.SourceTree.{SourceTree}
+use Rattle.first_form.specs.declared.tree.Stmt.{Stmt}
+use Rattle.first_form.specs.declared.tree.Unit.{Unit as SourceUnit}
+use Rattle.first_form.specs.declared.tree.SourceTree.{SourceTree}
 use Rattle.st_tree.specs.declared.code.CellInfo.{CellInfo}
-use Rattle.st_tree.specs.Nodes.{stmt_nodes}
+use Rattle.first_form.specs.Nodes.{stmt_nodes}
 use Rattle.finding_spans.specs.Places.{IsPosition, IsReportedAt}
 use Rattle.finding_spans.specs.declared.report.Alarm.{Alarm}
 use Rattle.finding_spans.specs.declared.report.Entry.{Entry}

@@ -3,13 +3,13 @@ use Rattle.std.specs.Prelude.{◌≡◌, ◌≤◌, ℕ, List, [], ◌∷◌, le
 use Rattle.std.specs.List.{Contains}
 use Rattle.token_grammar.specs.declared.token.Token.{Token}
 use Rattle.st_lexer.specs.Cut.{IsCut}
-use Rattle.st_expr.specs.FirstForm.{IsTree}
+use Rattle.first_form.specs.FirstForm.{IsTree}
 use Rattle.st_tree.specs.declared.node.Node.{Node}
-use Rattle.st_tree.specs.declared.tree.Unit.{Unit as SourceUnit}
-use Rattle.st_tree.specs.declared.tree.SourceTree.{SourceTree}
-use Rattle.st_tree.specs.Feeds.{feeds_from}
-use Rattle.st_tree.specs.Names.{UsesDeclared}
-use Rattle.st_tree.specs.Nodes.{IsNumbered, nodes_of}
+use Rattle.first_form.specs.declared.tree.Unit.{Unit as SourceUnit}
+use Rattle.first_form.specs.declared.tree.SourceTree.{SourceTree}
+use Rattle.first_form.specs.Feeds.{feeds_from}
+use Rattle.first_form.specs.Names.{UsesDeclared}
+use Rattle.first_form.specs.Nodes.{IsNumbered, nodes_of}
 use Rattle.station_cli.specs.Report.{IsFaultAt}
 use Rattle.station_cli.specs.declared.report.Parsed.{Parsed}
 use Rattle.station_cli.specs.declared.report.Parsed.TheVariants.{Tree, Fault}

@@ -8,16 +8,16 @@ use Rattle.interval_domain.specs.Grid.{IsGrid}
 use Rattle.st_tree.specs.declared.node.Site.{Site}
 use Rattle.iec_tables.specs.declared.fault.FaultCode.{FaultCode}
 use Rattle.iec_tables.specs.declared.fault.FaultCode.TheVariants.{NotBuilt}
-use Rattle.st_tree.specs.declared.tree.Stmt.{Stmt}
-use Rattle.st_tree.specs.declared.tree.Stmt.TheVariants.{Assign}
-use Rattle.st_tree.specs.declared.tree.Unit.{Unit as SourceUnit}
-use Rattle.st_tree.specs.declared.tree.SourceTree.{SourceTree}
+use Rattle.first_form.specs.declared.tree.Stmt.{Stmt}
+use Rattle.first_form.specs.declared.tree.Stmt.TheVariants.{Assign}
+use Rattle.first_form.specs.declared.tree.Unit.{Unit as SourceUnit}
+use Rattle.first_form.specs.declared.tree.SourceTree.{SourceTree}
 use Rattle.st_tree.specs.declared.code.TaskCode.{TaskCode}
 use Rattle.st_tree.specs.declared.code.Component.{Component}
-use Rattle.st_tree.specs.Nodes.{stmt_nodes}
+use Rattle.first_form.specs.Nodes.{stmt_nodes}
 use Rattle.token_grammar.specs.declared.token.Token.{Token}
 use Rattle.st_lexer.specs.Cut.{IsCut, IsFault}
-use Rattle.st_expr.specs.FirstForm.{IsTree, IsRefused}
+use Rattle.first_form.specs.FirstForm.{IsTree, IsRefused}
 use Rattle.task_config.specs.Plan.{IsComponent}
 use Rattle.cycle_analysis.specs.Pass.{Entry as Told, Alarm as Alarmed}
 use Rattle.cycle_analysis.specs.Table.{Part, part_at, pass_of, own_range, IsSolution}

@@ -8,7 +8,7 @@ pub fn one_report()
     ensures { OneReport }
 {
     st_lexer::cut_laws();
-    st_expr::tree_laws();
+    first_form::tree_laws();
 }
 
 /// The report that is defined for a text holds of each run of the program that the text spells; where it is FREE, no run faults and no
@@ -18,7 +18,7 @@ pub fn reports_hold()
     ensures free { FreeHolds }
 {
     st_lexer::cut_laws();
-    st_expr::tree_laws();
+    first_form::tree_laws();
     cycle_analysis::headline();
 }
 

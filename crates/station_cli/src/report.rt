@@ -2,8 +2,8 @@
 
 ghost use Rattle.std.specs.Prelude.{◌≡◌, ℕ, List, ◌++◌, ◌≤◌, IfOk, OnOk, length, flat_map};
 ghost use Rattle.std.specs.List.{AllByRecursion, Contains};
-ghost use Rattle.st_tree.specs.Nodes.{IsNumbered};
-ghost use Rattle.st_tree.specs.declared.tree.Unit.{Unit as SourceUnit};
+ghost use Rattle.first_form.specs.Nodes.{IsNumbered};
+ghost use Rattle.first_form.specs.declared.tree.Unit.{Unit as SourceUnit};
 ghost use Rattle.finding_spans.specs.declared.report.Refusal.{Refusal as Reason};
 ghost use Rattle.station_cli.specs.Reports.{IsCounted};
 ghost use Rattle.station_cli.specs.Report.{IsReport, IsRefusal, IsReportOf, IsFaultAt, IsUnder, subject};
@@ -14,13 +14,13 @@ use cycle_analysis::{Solution, solve};
 use finding_spans::{
     Alarm, AlarmCount, Entry, RangeLine, Refusal, Report, Verdict, line_of, place, statement_of,
 };
+use first_form::{ParseFault, SourceTree, Stmt, first_form, tree_laws};
 use iec_tables::fault::FaultCode;
 use interval_domain::grid::Grid;
 use interval_domain::interval::Interval;
 use sqlite_items::Items;
-use st_expr::{ParseFault, first_form, tree_laws};
 use st_lexer::{LexFault, cut_laws, tokens};
-use st_tree::{CellInfo, Component, Hit, NodeNo, SourceTree, Stmt};
+use st_tree::{CellInfo, Component, Hit, NodeNo};
 use station_ports::outside::NoMemory;
 use station_ports::steps::Steps;
 use station_ports::texts::{FileText, Name};

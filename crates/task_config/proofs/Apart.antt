@@ -6,12 +6,12 @@ use Rattle.std.proofs.lemmas.Bool.{eqb-true, false_from_ne_true}
 use Rattle.std.proofs.lemmas.List.{length-append}
 use Rattle.st_tree.specs.declared.node.Node.{Node}
 use Rattle.st_tree.specs.declared.node.Site.{Site}
-use Rattle.st_tree.specs.declared.tree.Expr.{Expr, more_of-Expr, end_of-Expr}
-use Rattle.st_tree.specs.declared.tree.Expr.TheVariants as expr
-use Rattle.st_tree.specs.declared.tree.Stmt.{Stmt}
-use Rattle.st_tree.specs.declared.tree.Stmt.TheVariants.{Assign}
-use Rattle.st_tree.specs.Nodes.{expr_nodes, path_nodes, stmt_nodes, CountsFrom}
-use Rattle.st_tree.proofs.Parts.{counts_left, counts_right}
+use Rattle.first_form.specs.declared.tree.Expr.{Expr, more_of-Expr, end_of-Expr}
+use Rattle.first_form.specs.declared.tree.Expr.TheVariants as expr
+use Rattle.first_form.specs.declared.tree.Stmt.{Stmt}
+use Rattle.first_form.specs.declared.tree.Stmt.TheVariants.{Assign}
+use Rattle.first_form.specs.Nodes.{expr_nodes, path_nodes, stmt_nodes, CountsFrom}
+use Rattle.first_form.proofs.Parts.{counts_left, counts_right}
 use Rattle.task_config.proofs.Operators.{expr_operators, stmt_operators}
 use Rattle.task_config.proofs.Lists.{all_weaker, all_append}
 

@@ -2,15 +2,15 @@
 use Rattle.std.proofs.Common.{◌≡◌, ◌^◌, ◌-◌, ℕ, true, List, [], ◌∷◌, Option, Some, None, refl, sym, ap, ◌∙◌}
 use Rattle.std.specs.Prelude.{ℤ, position, bytes_eq, option_map, option_and_then, unwrap_or}
 use Rattle.iec_tables.specs.declared.elem.Elem.TheVariants as elem
-use Rattle.st_tree.specs.declared.tree.Expr.{Expr, more_of-Expr, end_of-Expr}
-use Rattle.st_tree.specs.declared.tree.Expr.TheVariants as expr
-use Rattle.st_tree.specs.declared.tree.Stmt.{Stmt}
-use Rattle.st_tree.specs.declared.tree.Stmt.TheVariants.{Assign}
+use Rattle.first_form.specs.declared.tree.Expr.{Expr, more_of-Expr, end_of-Expr}
+use Rattle.first_form.specs.declared.tree.Expr.TheVariants as expr
+use Rattle.first_form.specs.declared.tree.Stmt.{Stmt}
+use Rattle.first_form.specs.declared.tree.Stmt.TheVariants.{Assign}
 use Rattle.st_tree.specs.declared.code.Cell.{Cell}
 use Rattle.st_tree.specs.declared.code.Cell.TheVariants.{Own}
 use Rattle.st_tree.specs.Code.{Instructions, Literal, Read, Operate, Write}
-use Rattle.st_tree.specs.Names.{Names, has, ExprUses, BodyUses}
-use Rattle.st_tree.specs.declared.tree.Path.{Path}
+use Rattle.first_form.specs.Names.{Names, has, ExprUses, BodyUses}
+use Rattle.first_form.specs.declared.tree.Path.{Path}
 use Rattle.task_config.specs.Plan.{value_code, stmt_code, body_code, at_cell}
 use Rattle.task_config.specs.Written.{written_cell, written_value, written_body}
 use Rattle.task_config.proofs.Named.{place_there}

@@ -3,11 +3,11 @@ use Rattle.std.proofs.Common.{List, [], ◌∷◌, sym, subst, ⊎_elim}
 use Rattle.std.specs.Prelude.{ℤ, flat_map}
 use Rattle.std.specs.List.{Contains}
 use Rattle.std.proofs.lemmas.List.Elements.{Contains-append_left, Contains-append_right, Contains-append_cases}
-use Rattle.st_tree.specs.declared.tree.Expr.{Expr, more_of-Expr, end_of-Expr}
-use Rattle.st_tree.specs.declared.tree.Expr.TheVariants as expr
-use Rattle.st_tree.specs.declared.tree.Stmt.{Stmt}
-use Rattle.st_tree.specs.declared.tree.Stmt.TheVariants.{Assign}
-use Rattle.st_tree.specs.Names.{Names, ExprUses, BodyUses}
+use Rattle.first_form.specs.declared.tree.Expr.{Expr, more_of-Expr, end_of-Expr}
+use Rattle.first_form.specs.declared.tree.Expr.TheVariants as expr
+use Rattle.first_form.specs.declared.tree.Stmt.{Stmt}
+use Rattle.first_form.specs.declared.tree.Stmt.TheVariants.{Assign}
+use Rattle.first_form.specs.Names.{Names, ExprUses, BodyUses}
 use Rattle.task_config.specs.Plan.{expr_literals, stmt_literals}
 use Rattle.task_config.specs.Written.{written_literals, literals_of_stmt}
 use Rattle.task_config.proofs.Numerals.{value_same}

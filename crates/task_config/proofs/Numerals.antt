@@ -1,7 +1,7 @@
 -- A numeral that fits is kept as it is.
 use Rattle.std.proofs.Common.{◌≡◌, ◌<◌, ◌^◌, ℕ, refl, arith}
 use Rattle.std.proofs.lemmas.Grind.{common_steps}
-use Rattle.st_tree.specs.declared.tree.Literal.{Literal as Numeral}
+use Rattle.first_form.specs.declared.tree.Literal.{Literal as Numeral}
 use Rattle.task_config.specs.Plan.{numeral_value}
 use Rattle.task_config.specs.Written.{kept_value, kept_size}
 

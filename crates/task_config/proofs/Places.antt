@@ -7,8 +7,8 @@ use Rattle.std.proofs.lemmas.List.{map-append}
 use Rattle.std.proofs.lemmas.List.Sums.{prefix_len-le-length}
 use Rattle.std.proofs.lemmas.Slice.Eq.{bytes_eq-Decides}
 use Rattle.iec_tables.specs.declared.elem.Elem.{Elem}
-use Rattle.st_tree.specs.declared.tree.Identifier.{Identifier}
-use Rattle.st_tree.specs.declared.tree.Unit.{Unit as SourceUnit}
+use Rattle.first_form.specs.declared.tree.Identifier.{Identifier}
+use Rattle.first_form.specs.declared.tree.Unit.{Unit as SourceUnit}
 use Rattle.st_tree.specs.declared.code.CellInfo.{CellInfo}
 use Rattle.st_tree.specs.declared.code.TaskCode.{TaskCode}
 use Rattle.st_tree.specs.Code.{reading}

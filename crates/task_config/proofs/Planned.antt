@@ -1,11 +1,11 @@
 -- What is planned is the component of the unit, and its code is steady.
 use Rattle.std.proofs.Common.{◌≡◌, length, ℕ, zero, suc, [], ◌∷◌, Some, sym, ap, subst, ◌∙◌}
 use Rattle.std.specs.Prelude.{slice_get}
-use Rattle.st_tree.specs.declared.tree.Unit.{Unit as SourceUnit}
+use Rattle.first_form.specs.declared.tree.Unit.{Unit as SourceUnit}
 use Rattle.st_tree.specs.declared.code.Component.{Component}
 use Rattle.std.proofs.lemmas.Option.{same_Some, none-some}
 use Rattle.st_tree.specs.Code.{reading}
-use Rattle.st_tree.specs.Names.{UsesDeclared, unit_names}
+use Rattle.first_form.specs.Names.{UsesDeclared, unit_names}
 use Rattle.st_tree.specs.Writes.{WritesCells}
 use Rattle.st_tree.specs.Steady.{IsSteady, IsSteadyComponent}
 use Rattle.st_tree.specs.declared.code.TaskCode.{TaskCode}

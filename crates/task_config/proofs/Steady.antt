@@ -3,15 +3,15 @@ use Rattle.std.proofs.Common.{◌≡◌, ◌<◌, ℕ, zero, suc, List, [], ◌�
 use Rattle.std.specs.Prelude.{position, bytes_eq, option_map}
 use Rattle.std.proofs.lemmas.Option.{same_Some, none-some, option_and_then_some}
 use Rattle.iec_tables.specs.declared.elem.Elem.TheVariants as elem
-use Rattle.st_tree.specs.declared.tree.Path.{Path}
-use Rattle.st_tree.specs.declared.tree.Expr.{Expr, more_of-Expr, end_of-Expr}
-use Rattle.st_tree.specs.declared.tree.Expr.TheVariants as expr
-use Rattle.st_tree.specs.declared.tree.Stmt.{Stmt}
-use Rattle.st_tree.specs.declared.tree.Stmt.TheVariants.{Assign}
+use Rattle.first_form.specs.declared.tree.Path.{Path}
+use Rattle.first_form.specs.declared.tree.Expr.{Expr, more_of-Expr, end_of-Expr}
+use Rattle.first_form.specs.declared.tree.Expr.TheVariants as expr
+use Rattle.first_form.specs.declared.tree.Stmt.{Stmt}
+use Rattle.first_form.specs.declared.tree.Stmt.TheVariants.{Assign}
 use Rattle.st_tree.specs.declared.code.Cell.{Cell}
 use Rattle.st_tree.specs.declared.code.Cell.TheVariants.{Own, Shared}
 use Rattle.st_tree.specs.Code.{Instructions, Done, Literal, Read, Operate, Write}
-use Rattle.st_tree.specs.Names.{Names}
+use Rattle.first_form.specs.Names.{Names}
 use Rattle.st_tree.specs.Writes.{HasWritten}
 use Rattle.st_tree.specs.Steady.{IsSteady}
 use Rattle.task_config.specs.Plan.{numeral_value, at_cell, value_code, stmt_code, body_code}

@@ -5,13 +5,13 @@ use Rattle.std.specs.BTreeMap.{BTreeMap, get_by}
 use Rattle.std.specs.Cmp.Lexicographic.{slice_cmp}
 use Rattle.std.specs.Ordering.{nat_cmp}
 use Rattle.iec_tables.specs.declared.elem.Elem.TheVariants as elem
-use Rattle.st_tree.specs.declared.tree.Path.{Path}
-use Rattle.st_tree.specs.declared.tree.Literal.{Literal as Numeral}
-use Rattle.st_tree.specs.declared.tree.Expr.{Expr, more_of-Expr, end_of-Expr}
-use Rattle.st_tree.specs.declared.tree.Expr.TheVariants as expr
-use Rattle.st_tree.specs.declared.tree.Stmt.{Stmt}
-use Rattle.st_tree.specs.declared.tree.Stmt.TheVariants.{Assign}
-use Rattle.st_tree.specs.declared.tree.Unit.{Unit as SourceUnit}
+use Rattle.first_form.specs.declared.tree.Path.{Path}
+use Rattle.first_form.specs.declared.tree.Literal.{Literal as Numeral}
+use Rattle.first_form.specs.declared.tree.Expr.{Expr, more_of-Expr, end_of-Expr}
+use Rattle.first_form.specs.declared.tree.Expr.TheVariants as expr
+use Rattle.first_form.specs.declared.tree.Stmt.{Stmt}
+use Rattle.first_form.specs.declared.tree.Stmt.TheVariants.{Assign}
+use Rattle.first_form.specs.declared.tree.Unit.{Unit as SourceUnit}
 use Rattle.st_tree.specs.declared.code.Cell.{Cell}
 use Rattle.st_tree.specs.declared.code.Cell.TheVariants.{Own}
 use Rattle.st_tree.specs.declared.code.CellInfo.{CellInfo}

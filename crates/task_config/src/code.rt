@@ -4,9 +4,10 @@ ghost use Rattle.std.specs.Prelude.{◌≡◌, ◌++◌, flat_map, IfOk, OnOk};
 ghost use Rattle.st_tree.specs.Code.{reading};
 ghost use Rattle.task_config.specs.Written.{place_in, kept_value, written_cell, written_value, written_stmt, written_body, written_literals, literals_of_stmt};
 
+use first_form::{Expr, Literal, Path, Stmt};
 use iec_tables::elem::Elem;
 use sqlite_items::Items;
-use st_tree::{Cell, Code, Expr, Literal, Number, Operation, Path, Site, Stmt};
+use st_tree::{Cell, Code, Number, Operation, Site};
 use std::alloc::{AllocError, Global};
 use std::collections::BTreeMap;
 

@@ -2,16 +2,17 @@
 
 ghost use Rattle.std.specs.Prelude.{◌≡◌, ℕ, List, [], ◌∷◌, ◌++◌, IfOk, OnOk, length, flat_map};
 ghost use Rattle.st_tree.specs.Code.{reading};
-ghost use Rattle.st_tree.specs.Names.{UsesDeclared};
+ghost use Rattle.first_form.specs.Names.{UsesDeclared};
 ghost use Rattle.st_tree.specs.Steady.{IsSteadyComponent};
 ghost use Rattle.st_tree.specs.Writes.{WritesCells};
-ghost use Rattle.st_tree.specs.declared.tree.Unit.{Unit as SourceUnit};
+ghost use Rattle.first_form.specs.declared.tree.Unit.{Unit as SourceUnit};
 ghost use Rattle.task_config.specs.Plan.{cell_of, decl_cells, unit_cells, IsComponent};
 ghost use Rattle.task_config.specs.Written.{place_in, place_among, with_place, written_body, IsWritten};
 
 use crate::code::{Cells, body_code, collect_literals};
+use first_form::{Decl, Identifier, Section, SourceTree, Spec, Unit};
 use sqlite_items::Items;
-use st_tree::{CellInfo, Component, Decl, Identifier, Section, SourceTree, Spec, TaskCode, Unit};
+use st_tree::{CellInfo, Component, TaskCode};
 use station_ports::outside::NoMemory;
 use station_ports::texts::Name;
 use std::alloc::{AllocError, Global};

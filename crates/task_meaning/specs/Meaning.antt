@@ -10,8 +10,8 @@ use Rattle.st_tree.specs.declared.code.Operation.{Operation}
 use Rattle.st_tree.specs.declared.code.CellInfo.{CellInfo}
 use Rattle.st_tree.specs.declared.code.TaskCode.{TaskCode}
 use Rattle.st_tree.specs.declared.code.Component.{Component}
-use Rattle.st_tree.specs.declared.tree.Operator.{Operator}
-use Rattle.st_tree.specs.declared.tree.Operator.TheVariants.{Add, Subtract}
+use Rattle.st_tree.specs.declared.code.Operator.{Operator}
+use Rattle.st_tree.specs.declared.code.Operator.TheVariants.{Add, Subtract}
 use Rattle.st_tree.specs.declared.node.Site.{Site}
 use Rattle.st_tree.specs.Code.{Instructions, Done, Literal, Read, Operate, Write, reading}
 

@@ -1,6 +1,6 @@
 use Rattle.std.proofs.Common.{◌∙◌, leb, rules}
 use Rattle.std.proofs.lemmas.List.Sorted.{IsPartitionPoint-from_clause}
-use Rattle.st_tree.specs.Nodes.{decl_nodes}
+use Rattle.first_form.specs.Nodes.{decl_nodes}
 use Rattle.finding_spans.proofs.Heads.{decl_rest, decl_is}
 use Rattle.finding_spans.proofs.Nested.{decl_counts}
 use Rattle.finding_spans.proofs.Parts.{point_found}

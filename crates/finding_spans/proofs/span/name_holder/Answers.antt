@@ -2,8 +2,8 @@ use Rattle.std.proofs.Common.{◌≡◌, false, ltb, List, Some, sym, subst, rul
 use Rattle.std.specs.Prelude.{map, Contains, slice_get}
 use Rattle.std.proofs.lemmas.Bool.{eqb-true}
 use Rattle.std.proofs.lemmas.List.Sorted.{IsPartitionPoint-from_clause}
-use Rattle.st_tree.specs.declared.tree.Identifier.{Identifier}
-use Rattle.st_tree.specs.Nodes.{name_node}
+use Rattle.first_form.specs.declared.tree.Identifier.{Identifier}
+use Rattle.first_form.specs.Nodes.{name_node}
 use Rattle.finding_spans.specs.Places.{has_number}
 use Rattle.finding_spans.proofs.Names.{held_by_name, held_by_first, no_name_in, other_name, past_names}
 use Rattle.finding_spans.proofs.span.name_holder.Goals as goal

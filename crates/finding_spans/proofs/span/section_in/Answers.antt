@@ -1,6 +1,6 @@
 use Rattle.std.proofs.Common.{◌∙◌, leb, rules}
 use Rattle.std.proofs.lemmas.List.Sorted.{IsPartitionPoint-from_clause}
-use Rattle.st_tree.specs.Nodes.{section_nodes}
+use Rattle.first_form.specs.Nodes.{section_nodes}
 use Rattle.finding_spans.proofs.Heads.{section_rest, section_is}
 use Rattle.finding_spans.proofs.Nested.{section_counts}
 use Rattle.finding_spans.proofs.Parts.{point_found}

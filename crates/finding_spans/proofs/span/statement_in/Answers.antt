@@ -1,6 +1,6 @@
 use Rattle.std.proofs.Common.{◌∙◌, leb, rules}
 use Rattle.std.proofs.lemmas.List.Sorted.{IsPartitionPoint-from_clause}
-use Rattle.st_tree.specs.Nodes.{stmt_nodes}
+use Rattle.first_form.specs.Nodes.{stmt_nodes}
 use Rattle.finding_spans.specs.Places.{stmt_node}
 use Rattle.finding_spans.proofs.Heads.{stmt_rest, stmt_is}
 use Rattle.finding_spans.proofs.Nested.{body_counts}

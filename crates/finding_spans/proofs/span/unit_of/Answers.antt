@@ -1,6 +1,6 @@
 use Rattle.std.proofs.Common.{◌∙◌, leb, rules}
 use Rattle.std.proofs.lemmas.List.Sorted.{IsPartitionPoint-from_clause}
-use Rattle.st_tree.specs.Nodes.{unit_nodes, nodes_of}
+use Rattle.first_form.specs.Nodes.{unit_nodes, nodes_of}
 use Rattle.finding_spans.proofs.Heads.{unit_rest, unit_is}
 use Rattle.finding_spans.proofs.Numbers.{has_in}
 use Rattle.finding_spans.proofs.Parts.{point_found}

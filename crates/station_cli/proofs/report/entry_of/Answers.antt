@@ -1,6 +1,6 @@
 use Rattle.std.proofs.Common.{◌∙◌, List, zero, refl, sym, subst, arith}
 use Rattle.std.specs.List.{Contains}
-use Rattle.st_tree.specs.declared.tree.Unit.{Unit as SourceUnit}
+use Rattle.first_form.specs.declared.tree.Unit.{Unit as SourceUnit}
 use Rattle.station_cli.proofs.Statements.{in_tree}
 use Rattle.station_cli.proofs.Holders.{reported_within}
 use Rattle.station_cli.proofs.report.entry_of.Goals as goal

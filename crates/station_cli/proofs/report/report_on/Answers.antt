@@ -1,7 +1,7 @@
 use Rattle.std.proofs.Common.{ℕ, List, Ok, Err, IfOk, length, inl, ap, subst}
 use Rattle.std.specs.Prelude.{Result}
 use Rattle.station_ports.specs.declared.outside.NoMemory.{NoMemory}
-use Rattle.st_tree.specs.declared.tree.SourceTree.{SourceTree}
+use Rattle.first_form.specs.declared.tree.SourceTree.{SourceTree}
 use Rattle.finding_spans.specs.declared.report.Report.{Report}
 use Rattle.station_cli.specs.declared.report.Parsed.TheVariants.{Tree}
 use Rattle.station_cli.specs.Report.{IsReport, IsReportOf}

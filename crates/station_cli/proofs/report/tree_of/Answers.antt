@@ -2,9 +2,9 @@ use Rattle.std.proofs.Common.{◌≡◌, ℕ, ◌≤◌, List, length, inl, inr,
 use Rattle.iec_tables.specs.declared.fault.FaultCode.{FaultCode}
 use Rattle.st_lexer.specs.Cut.{IsCut, IsFault}
 use Rattle.st_lexer.specs.Answers as lexer
-use Rattle.st_expr.specs.FirstForm.{IsTree, IsRefused}
-use Rattle.st_expr.specs.Answers.{Refuses}
-use Rattle.st_expr.specs.declared.file.ParseFault.TheVariants.{At}
+use Rattle.first_form.specs.FirstForm.{IsTree, IsRefused}
+use Rattle.first_form.specs.Answers.{Refuses}
+use Rattle.first_form.specs.declared.file.ParseFault.TheVariants.{At}
 use Rattle.station_cli.specs.Report.{IsFaultAt}
 use Rattle.station_cli.proofs.Parsed.{analysable, refused_within}
 use Rattle.station_cli.proofs.report.tree_of.Goals as goal

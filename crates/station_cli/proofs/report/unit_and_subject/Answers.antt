@@ -1,5 +1,5 @@
 use Rattle.std.proofs.Common.{ap, ◌∙◌}
-use Rattle.st_tree.specs.declared.tree.Unit.{Unit as SourceUnit}
+use Rattle.first_form.specs.declared.tree.Unit.{Unit as SourceUnit}
 use Rattle.station_cli.specs.Report.{subject}
 use Rattle.station_cli.proofs.report.unit_and_subject.Goals as goal
 

@@ -1,5 +1,5 @@
 use Rattle.std.proofs.Common.{append_assoc, ap, arith}
-use Rattle.st_tree.specs.declared.tree.Expr.{size-Expr}
+use Rattle.first_form.specs.declared.tree.Expr.{size-Expr}
 use Rattle.task_config.specs.Written.{written_literals}
 use Rattle.task_config.proofs.Written.{binary_literals, left_smaller}
 use Rattle.task_config.proofs.code.+collect_of_value.Goals as goal

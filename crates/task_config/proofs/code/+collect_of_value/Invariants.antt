@@ -1,6 +1,6 @@
 -- The literals so far and those that are still to be added are all those of the whole.
 use Rattle.std.proofs.Common.{◌≡◌, ◌≤◌, ◌++◌}
-use Rattle.st_tree.specs.declared.tree.Expr.{size-Expr}
+use Rattle.first_form.specs.declared.tree.Expr.{size-Expr}
 use Rattle.task_config.specs.Written.{written_literals}
 use Rattle.task_config.proofs.code.+collect_of_value.Given as goal
 

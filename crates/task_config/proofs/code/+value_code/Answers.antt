@@ -1,6 +1,6 @@
 use Rattle.std.proofs.Common.{ap, arith}
 use Rattle.st_tree.specs.Code.{reading}
-use Rattle.st_tree.specs.declared.tree.Expr.{size-Expr}
+use Rattle.first_form.specs.declared.tree.Expr.{size-Expr}
 use Rattle.task_config.specs.Written.{place_in}
 use Rattle.task_config.proofs.Written.{binary_value, left_smaller}
 use Rattle.task_config.proofs.code.+value_code.Goals as goal

@@ -1,7 +1,7 @@
 -- What is still to be written out, before the code so far, is the whole before the rest.
 use Rattle.std.proofs.Common.{◌≡◌, ◌≤◌}
 use Rattle.st_tree.specs.Code.{reading}
-use Rattle.st_tree.specs.declared.tree.Expr.{size-Expr}
+use Rattle.first_form.specs.declared.tree.Expr.{size-Expr}
 use Rattle.task_config.specs.Written.{place_in, written_value}
 use Rattle.task_config.proofs.code.+value_code.Given as goal
 

@@ -1,6 +1,6 @@
 use Rattle.std.proofs.Common.{refl, ap, sym, ◌∙◌}
 use Rattle.st_tree.specs.Code.{reading}
-use Rattle.st_tree.specs.declared.tree.Stmt.TheVariants.{Assign}
+use Rattle.first_form.specs.declared.tree.Stmt.TheVariants.{Assign}
 use Rattle.task_config.specs.Written.{place_in}
 use Rattle.task_config.proofs.Written.{assign_case, reads_same}
 use Rattle.task_config.proofs.code.stmt_code.Goals as goal

@@ -1,6 +1,6 @@
 use Rattle.std.proofs.Common.{◌++◌, take, ◌+◌, ap, ◌∙◌, List, flat_map, arith}
 use Rattle.std.proofs.lemmas.Grind.{common_steps}
-use Rattle.st_tree.specs.declared.tree.Stmt.{Stmt}
+use Rattle.first_form.specs.declared.tree.Stmt.{Stmt}
 use Rattle.task_config.specs.Written.{literals_of_stmt}
 use Rattle.task_config.proofs.Places.{tasks_step, literals_step}
 use Rattle.task_config.proofs.component.component_of.Goals as goal

@@ -1,2 +1,0 @@
--- That parts of numbered nodes are numbered: Parts.
-pub mod Parts

@@ -1,7 +1,0 @@
--- The operand that is still to be dropped is no deeper than the expression.
-use Rattle.std.proofs.Common.{◌≤◌}
-use Rattle.st_tree.specs.declared.tree.Expr.{size-Expr}
-use Rattle.st_tree.proofs.tree.Expr.+drop.Given as goal
-
-abbrev pub invariant-loop-self : goal.invariant-loop-self
-invariant-loop-self l = size-Expr l.self ≤ size-Expr l.fn.self
