@@ -1,3 +1,5 @@
+-- How functions on lexemes read rules: Laws, and each way of putting them together once: Bind, OneToken, Steps, Loops, Starts. The answers
+-- drawn from it: Front, OneFront. Functions that repeat and take: Turns, Taken. Rules that add no depth: Flat.
 pub mod Laws
 pub mod Bind
 pub mod OneToken

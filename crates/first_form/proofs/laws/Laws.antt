@@ -1,4 +1,4 @@
--- What is to be proved of a parser: which words it reads, where it stops, and that no later token matters.
+-- What is to be proved of a parser of the form: which words it reads, where it stops, and that no later token matters.
 use Rattle.std.proofs.Common.{◌≡◌, ℕ, ◌<◌, Bool, false, cond, ltb, List, [], ◌∷◌, ◌++◌, Ok, Err, refl, ap, ◌∙◌, append_assoc}
 use Rattle.token_grammar.specs.Texts.{Lexeme}
 use Rattle.token_grammar.specs.declared.fault.ParseError.{ParseError}

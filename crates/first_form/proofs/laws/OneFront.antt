@@ -1,4 +1,4 @@
--- Lexemes have one longest front that begins a rule.
+-- Lexemes have one longest front at most that begins a rule.
 use Rattle.std.proofs.Common.{◌≡◌, ℕ, List, [], ◌∷◌, ◌++◌, append_assoc, append-nil, refl, sym, ap, subst, ◌∙◌}
 use Rattle.token_grammar.specs.Texts.{Lexeme}
 use Rattle.token_grammar.specs.Grammar.{Word, Rule, lexemes_of, Begins, Stops, IsLongest}

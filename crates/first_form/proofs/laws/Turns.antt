@@ -1,4 +1,4 @@
--- A parser that reads any number of turns, beside a loop that counts them.
+-- A function that reads any number of turns, beside a loop that counts them.
 use Rattle.std.proofs.Common.{◌≡◌, ℕ, suc, ◌+◌, ◌-◌, ◌<◌, ◌≤◌, Bool, true, false, List, Ok, Err, ap, ◌∙◌, arith}
 use Rattle.token_grammar.specs.Texts.{Lexeme}
 use Rattle.token_grammar.specs.Input.{Input, Stop, Outcome, Parser, and_then, loop_by, loop}
