@@ -1,3 +1,4 @@
 pub mod Code
 pub mod Writes
 pub mod Steady
+pub mod Places

@@ -1,10 +1,25 @@
-//! Nodes of source texts, alarms at them, and the code of tasks, as plain data.
+//! Trees of source texts, and the code of tasks, as plain data.
 #![tactic(auto)]
 
 mod code;
+mod declaration;
+mod expression;
+mod file;
 mod hit;
 mod node;
+mod statement;
 
 pub use code::{Cell, CellInfo, Code, Component, Number, Operation, Operator, TaskCode};
+pub use declaration::{
+    Decl, FieldInit, Init, Item, Keep, Range, Section, SectionKind, Spec, TypeName,
+};
+pub use expression::{
+    Address, Argument, BinaryOperator, Expr, Identifier, Part, Path, Root, UnaryOperator,
+};
+pub use file::{
+    Comment, Config, Fields, FilePart, Globals, Parameter, ProgramLine, Resource, Shape,
+    SourceTree, Task, Tasks, TypeDecl, Types, Unit, UnitKind,
+};
 pub use hit::Hit;
 pub use node::{Node, NodeNo, Site};
+pub use statement::{Branch, Case, Label, Point, Stmt, StmtArgument};

@@ -1,6 +1,6 @@
 -- A grammar: which lexemes, at which depths, spell which value. A rule reads like a line of the textual grammar of the standard. The
 -- code descends by a look at the next token.
-use Rattle.std.specs.Prelude.{◌≡◌, ◌⊎◌, ℕ, zero, suc, ◌+◌, ◌≤◌, Bool, true, List, [], ◌∷◌, ◌++◌}
+use Rattle.std.specs.Prelude.{◌≡◌, ◌⊎◌, ℕ, zero, suc, ◌+◌, ◌<◌, ◌≤◌, Bool, true, List, [], ◌∷◌, ◌++◌}
 use Rattle.token_grammar.specs.declared.token.TokenKind.{TokenKind}
 use Rattle.token_grammar.specs.Texts.{Lexeme}
 use Rattle.token_grammar.specs.Kinds.{is_kind}
@@ -42,6 +42,14 @@ abbrev pub ◌>>=◌ : {A B : Type 0} → Rule A → (A → Rule B) → Rule B
 infixl 9 ◌or◌
 abbrev pub ◌or◌ : {A : Type 0} → Rule A → Rule A → Rule A
 (L or M) d w x e = L d w x e ⊎ M d w x e
+
+-- what is opened or operated within is over after it
+abbrev pub scoped : {A : Type 0} → Rule A → Rule A
+scoped L d w x e = (m : ℕ) × L d w x m × (e ≡ d)
+
+-- one deeper
+abbrev pub deeper : {A : Type 0} → Rule A → Rule A
+deeper L d w x e = L (d + 1) w x e
 
 -- so many times
 abbrev pub times : {A : Type 0} → (A → Rule A) → ℕ → A → Rule A
@@ -102,3 +110,51 @@ pub record IsLongest {A : Type 0} (L : Rule A) (ts rest : List Lexeme) : Type 0 
   pub tokens : ts ≡ front ++ rest
   pub begun : Begins L 0 front
   pub stops : Stops L 0 front rest
+
+-- The lexemes begin with a word that spells the value, none of it too deep, and with no longer list that begins the rule.
+pub record SpellsFront {A : Type 0} (L : Rule A) (d : ℕ) (ts : List Lexeme) (x : A) (rest : List Lexeme) : Type 0 where
+  pub word : Word
+  pub depth : ℕ
+  pub tokens : ts ≡ lexemes_of word ++ rest
+  pub spelled : L d word x depth
+  pub within : Within word
+  pub longest : Stops L d (lexemes_of word) rest
+
+-- The lexemes up to the rest begin the rule, none of them too deep, and with the next one they don't.
+pub record IsFault {A : Type 0} (L : Rule A) (d : ℕ) (ts rest : List Lexeme) : Type 0 where
+  pub word : Word
+  pub more : Word
+  pub value : A
+  pub depth : ℕ
+  pub tokens : ts ≡ lexemes_of word ++ rest
+  pub begun : L d (word ++ more) value depth
+  pub within : Within word
+  pub longest : Stops L d (lexemes_of word) rest
+  -- and up to the rest they spell nothing
+  pub unspelled : (w : Word) (x : A) (e : ℕ) → L d w x e → ts ≡ lexemes_of w ++ rest → ⊥
+
+-- The lexemes up to the rest begin the rule, none of them too deep, and with the next one they still do, but it stands too deep.
+pub record IsTooDeep {A : Type 0} (L : Rule A) (d : ℕ) (ts rest : List Lexeme) : Type 0 where
+  pub word : Word
+  pub next : Lexeme × ℕ
+  pub more : Word
+  pub value : A
+  pub depth : ℕ
+  pub after : List Lexeme
+  pub tokens : ts ≡ lexemes_of word ++ rest
+  pub there : rest ≡ next.0 ∷ after
+  pub begun : L d (word ++ next ∷ more) value depth
+  pub within : Within word
+  pub deep : max_depth < next.1
+
+-- The whole list spells nothing. Up to the rest it begins the rule, no lexeme too deep, and with the next one it no longer does.
+pub record IsWrong {A : Type 0} (L : Rule A) (ts rest : List Lexeme) : Type 0 where
+  pub word : Word
+  pub more : Word
+  pub value : A
+  pub depth : ℕ
+  pub tokens : ts ≡ lexemes_of word ++ rest
+  pub begun : L 0 (word ++ more) value depth
+  pub within : Within word
+  pub longest : Stops L 0 (lexemes_of word) rest
+  pub unspelled : (x : A) → Spells L ts x → ⊥

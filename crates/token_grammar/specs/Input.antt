@@ -1,6 +1,6 @@
 -- What a parser reads from, and the steps that every rule is made of: the grammar once more as functions, which answer a value and what is
 -- left, or a place. A step on the way from the code to the grammar.
-use Rattle.std.specs.Prelude.{◌≡◌, ◌≢◌, ℕ, zero, suc, ◌+◌, Bool, true, false, if◌then◌else◌, nat_lt, List, [], ◌∷◌, length, Result, Ok, Err}
+use Rattle.std.specs.Prelude.{◌≡◌, ◌≢◌, ℕ, zero, suc, ◌+◌, Bool, true, false, ◌&&◌, if◌then◌else◌, nat_lt, List, [], ◌∷◌, length, Result, Ok, Err}
 use Rattle.token_grammar.specs.declared.token.TokenKind.{TokenKind}
 use Rattle.token_grammar.specs.declared.cursor.Cursor.{Cursor}
 use Rattle.token_grammar.specs.declared.fault.ParseError.{ParseError}
@@ -33,6 +33,24 @@ sees_that test (t ∷ ts) = test t
 
 abbrev pub sees_in : TokenKind → List Lexeme → Bool
 sees_in k = sees_that (is_kind k)
+
+-- the lexeme after the next is of this kind
+abbrev pub second_in : TokenKind → List Lexeme → Bool
+second_in k [] = false
+second_in k (t ∷ ts) = sees_in k ts
+
+-- the next lexeme is of the one kind, and the one after it of the other
+abbrev pub sees_two : TokenKind → TokenKind → List Lexeme → Bool
+sees_two j k ts = sees_in j ts && second_in k ts
+
+-- the second lexeme after the next is of this kind
+abbrev pub third_in : TokenKind → List Lexeme → Bool
+third_in k [] = false
+third_in k (t ∷ ts) = second_in k ts
+
+-- the next three lexemes are of these kinds
+abbrev pub sees_three : TokenKind → TokenKind → TokenKind → List Lexeme → Bool
+sees_three i j k ts = sees_in i ts && (second_in j ts && third_in k ts)
 
 abbrev pub start_in : ℕ → List Lexeme → ℕ
 start_in last [] = last
@@ -79,6 +97,26 @@ take_that test = take_as test 0 0
 abbrev pub take : TokenKind → Parser Lexeme
 take k = take_that (is_kind k)
 
+-- a lexeme of this kind, from which on the text is one deeper
+abbrev pub enter : TokenKind → Parser Lexeme
+enter k = take_as (is_kind k) 1 1
+
+-- an operator of this kind, after which the text is one deeper
+abbrev pub operator : TokenKind → Parser Lexeme
+operator k = take_as (is_kind k) 0 1
+
+-- what was opened, or operated, within is over after it
+abbrev pub back_to : {A : Type 0} → ℕ → Outcome A → Outcome A
+back_to depth (Ok p) = Ok (p.0, record p.1 { depth = depth })
+back_to depth (Err e) = Err e
+
+abbrev pub scoped : {A : Type 0} → Parser A → Parser A
+scoped p = λ i. back_to i.depth (p i)
+
+-- one deeper
+abbrev pub deeper : {A : Type 0} → Parser A → Parser A
+deeper p = λ i. p (record i { depth = i.depth + 1 })
+
 -- a value made of the first byte, the byte after the last, and what was read
 abbrev pub with_place : {A B : Type 0} → (ℕ → ℕ → A → B) → ℕ → Outcome A → Outcome B
 with_place make start (Ok p) = Ok (make start p.1.last p.0, p.1)
@@ -104,6 +142,10 @@ unfoldable pub repeated : {A : Type 0} → (List Lexeme → Bool) → (A → Par
 repeated test step a = λ i. loop test step (length i.rest) a i
 
 -- ---- what a function that parses ensures: the parser's outcome, unless memory fails
+
+abbrev pub Reads : {A : Type 0} → Outcome A → Result A ParseError → Input → Type 0
+Reads outcome (Ok a) new = outcome ≡ Ok (a, new)
+Reads outcome (Err e) new = e ≢ Memory → outcome ≡ Err (record { code = e; rest = new.rest })
 
 -- what was read is shown by a function
 abbrev pub ReadsAs : {A B : Type 0} → (A → B) → Outcome B → Result A ParseError → Input → Type 0

@@ -3,8 +3,10 @@
 
 mod cursor;
 mod fault;
+mod kept;
 mod token;
 
 pub use cursor::{Cursor, MAX_DEPTH};
 pub use fault::ParseError;
+pub use kept::drop_comments;
 pub use token::{Token, TokenKind, Tokens};

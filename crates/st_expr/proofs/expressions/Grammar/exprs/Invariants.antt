@@ -1,0 +1,8 @@
+use Rattle.std.proofs.Common.{◌≡◌, ◌-◌}
+use Rattle.token_grammar.specs.declared.token.TokenKind.TheVariants as k
+use Rattle.token_grammar.specs.Input.{view, loop, sees_in}
+use Rattle.st_expr.specs.Parse.{nested, exprs, more_exprs}
+use Rattle.st_expr.proofs.expressions.Grammar.exprs.Given as goal
+
+abbrev pub invariant-loop-turn : goal.invariant-loop-turn
+invariant-loop-turn g l = exprs (nested l.self.nest) (view l.fn.cursor) ≡ loop (sees_in k.Comma) (more_exprs (nested l.self.nest)) (l._turn-end - l._turn) l.found (view l.cursor)

@@ -1,0 +1,7 @@
+use Rattle.std.proofs.Common.{◌≡◌, ◌-◌}
+use Rattle.token_grammar.specs.Input.{view, loop, sees_in}
+use Rattle.st_expr.specs.Parse.{nested, parts, more_parts, sees_part}
+use Rattle.st_expr.proofs.expressions.Grammar.parts.Given as goal
+
+abbrev pub invariant-loop-turn : goal.invariant-loop-turn
+invariant-loop-turn g l = parts (nested l.self.nest) (view l.fn.cursor) ≡ loop sees_part (more_parts (nested l.self.nest)) (l._turn-end - l._turn) l.found (view l.cursor)

@@ -1,0 +1,9 @@
+pub mod Trees
+pub mod Grammar
+pub mod Parse
+pub mod Nests
+pub mod StatementTrees
+pub mod Statements
+pub mod ParseStatements
+pub mod NestsStatements
+pub mod Held

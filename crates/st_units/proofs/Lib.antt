@@ -1,0 +1,7 @@
+pub mod Lists
+pub mod SpecForms
+pub mod InitForms
+pub mod DeclForms
+pub mod ConfigForms
+pub mod UnitForms
+pub mod FileForms

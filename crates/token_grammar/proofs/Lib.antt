@@ -1,0 +1,17 @@
+pub mod Laws
+pub mod Bind
+pub mod OneToken
+pub mod Steps
+pub mod Loops
+pub mod Front
+pub mod Starts
+pub mod Tests
+pub mod Two
+pub mod Turns
+pub mod Found
+pub mod OneFront
+pub mod Forms
+pub mod Pairs
+pub mod Whole
+pub mod Three
+pub mod Loose
