@@ -1,7 +1,7 @@
 -- The numbers and names of the faults for which a text is refused. Source: this profile.
 use Rattle.std.specs.Prelude.{ℕ, List, codes}
 use Rattle.iec_tables.specs.declared.fault.FaultCode.{FaultCode}
-use Rattle.iec_tables.specs.declared.fault.FaultCode.TheVariants.{NotUtf8, BadByte, OpenComment, BadNumber, BadName, NotBuilt}
+use Rattle.iec_tables.specs.declared.fault.FaultCode.TheVariants.{NotUtf8, BadByte, OpenComment, BadNumber, BadName, Grammar, TooDeep, NotBuilt}
 
 abbrev pub code_of : FaultCode → ℕ
 code_of NotUtf8 = 1
@@ -9,6 +9,8 @@ code_of BadByte = 2
 code_of OpenComment = 3
 code_of BadNumber = 4
 code_of BadName = 5
+code_of Grammar = 6
+code_of TooDeep = 7
 code_of NotBuilt = 8
 
 abbrev pub name_of : FaultCode → List ℕ
@@ -17,4 +19,6 @@ name_of BadByte = codes "BadByte"
 name_of OpenComment = codes "OpenComment"
 name_of BadNumber = codes "BadNumber"
 name_of BadName = codes "BadName"
+name_of Grammar = codes "Grammar"
+name_of TooDeep = codes "TooDeep"
 name_of NotBuilt = codes "NotBuilt"

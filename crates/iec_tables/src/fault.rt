@@ -14,6 +14,10 @@ pub enum FaultCode {
     BadNumber,
     /// A name with two underscores in a row, or with one at its end.
     BadName,
+    /// The tokens no longer begin a file.
+    Grammar,
+    /// A token stands too deep.
+    TooDeep,
     /// A form of the profile that isn't built yet.
     NotBuilt,
 }
@@ -31,6 +35,8 @@ impl FaultCode {
             FaultCode::OpenComment => 3,
             FaultCode::BadNumber => 4,
             FaultCode::BadName => 5,
+            FaultCode::Grammar => 6,
+            FaultCode::TooDeep => 7,
             FaultCode::NotBuilt => 8,
         }
     }
@@ -45,6 +51,8 @@ impl FaultCode {
             FaultCode::OpenComment => "OpenComment",
             FaultCode::BadNumber => "BadNumber",
             FaultCode::BadName => "BadName",
+            FaultCode::Grammar => "Grammar",
+            FaultCode::TooDeep => "TooDeep",
             FaultCode::NotBuilt => "NotBuilt",
         }
     }
