@@ -4,9 +4,11 @@
 mod code;
 mod declaration;
 mod expression;
+mod feeds;
 mod file;
 mod hit;
 mod node;
+mod plan;
 mod statement;
 
 pub use code::{Cell, CellInfo, Code, Component, Number, Operation, Operator, TaskCode};
@@ -16,10 +18,12 @@ pub use declaration::{
 pub use expression::{
     Address, Argument, BinaryOperator, Expr, Identifier, Part, Path, Root, UnaryOperator,
 };
+pub use feeds::feeds_of;
 pub use file::{
     Comment, Config, Fields, FilePart, Globals, Parameter, ProgramLine, Resource, Shape,
     SourceTree, Task, Tasks, TypeDecl, Types, Unit, UnitKind,
 };
 pub use hit::Hit;
 pub use node::{Node, NodeNo, Site};
+pub use plan::PlanRefusal;
 pub use statement::{Branch, Case, Label, Point, Stmt, StmtArgument};

@@ -1,0 +1,39 @@
+// Trees with their nodes numbered.
+
+ghost use Rattle.std.specs.Prelude.{◌≡◌, [], IfOk};
+ghost use Rattle.tree_copies.specs.Numbers.{numbered_parts};
+ghost use Rattle.tree_copies.specs.Laws.{AreNumbered};
+ghost use Rattle.tree_copies.specs.Nodes.{nodes_of_expr, bare_expr, nodes_of_parts, bare_parts};
+
+use crate::expression::rebuild_expr;
+use crate::numbers::Counting;
+use crate::rebuild::rebuild_items;
+use sqlite_items::Items;
+use st_tree::{Expr, FilePart};
+use station_ports::outside::NoMemory;
+use std::alloc::Global;
+
+/// The expression with its nodes numbered. NoMemory where there is none for it, or a number would be past 2^32 - 1.
+pub fn number_expr(
+    alloc: Global,
+    tree: &Expr,
+    counting: &mut Counting<'_>,
+) -> Result<Expr, NoMemory>
+    ensures same { IfOk result (λ t. bare_expr t ≡ bare_expr tree.now) }
+    ensures numbers { IfOk result (λ t. AreNumbered (nodes_of_expr tree.now) (nodes_of_expr t) counting.old counting.new) }
+{
+    rebuild_expr(alloc, tree, counting)
+}
+
+/// The parts of a file with their nodes numbered. NoMemory where there is none for them, or a number would be past 2^32 - 1.
+pub fn number_parts(
+    alloc: Global,
+    parts: &Items<FilePart>,
+    counting: &mut Counting<'_>,
+) -> Result<Items<FilePart>, NoMemory>
+    ensures exact { counting.old.starts ≡ [] → IfOk result (λ t. t ≡ numbered_parts counting.old.comments parts.now) }
+    ensures same { IfOk result (λ t. bare_parts t ≡ bare_parts parts.now) }
+    ensures numbers { IfOk result (λ t. AreNumbered (nodes_of_parts parts.now) (nodes_of_parts t) counting.old counting.new) }
+{
+    rebuild_items(alloc, parts, counting)
+}
