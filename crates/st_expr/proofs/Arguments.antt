@@ -1,12 +1,12 @@
 -- The parser of an argument, [ name ":=" ] expr, reads its grammar: two lexemes tell whether a name and `:=` come first.
-use Rattle.std.proofs.Common.{◌≡◌, ℕ, zero, suc, ◌+◌, ◌<◌, ◌≤◌, Bool, true, false, ltb, Option, Some, None, List, [], ◌∷◌, ◌++◌, refl, sym, ap, ◌∙◌, arith, inl, inr}
+use Rattle.std.proofs.Common.{◌≡◌, ℕ, ◌+◌, true, false, ltb, Option, Some, None, List, [], ◌∷◌, ◌++◌, refl, sym, ap, ◌∙◌, arith}
 use Rattle.std.proofs.lemmas.Bool.{le-ltb}
 use Rattle.std.proofs.lemmas.List.{append-nil}
 use Rattle.token_grammar.specs.declared.token.TokenKind.{TokenKind}
 use Rattle.token_grammar.specs.declared.token.TokenKind.TheVariants as k
 use Rattle.token_grammar.specs.Texts.{Lexeme}
 use Rattle.token_grammar.specs.Kinds.{is_kind}
-use Rattle.token_grammar.specs.Input.{Parser, and_then, pure, take, sees_in, sees_two}
+use Rattle.token_grammar.specs.Input.{Parser, and_then, pure, take, sees_two}
 use Rattle.token_grammar.specs.Grammar.{Word, Rule, lexemes_of, max_depth, ◌>>=◌, give, token}
 use Rattle.token_grammar.proofs.Laws.{input, Exact, Held}
 use Rattle.token_grammar.proofs.Steps.{exact_node}

@@ -1,11 +1,11 @@
 -- The parser of expressions reads their grammar, to any depth.
-use Rattle.std.proofs.Common.{◌≡◌, ℕ, zero, suc, ◌+◌, ◌<◌, ◌≤◌, true, List, [], ◌∷◌, ◌++◌, refl, arith, inl, inr}
+use Rattle.std.proofs.Common.{◌≡◌, ℕ, zero, suc, ◌+◌, ◌<◌, true, List, [], ◌∷◌, ◌++◌, refl, arith, inr}
 use Rattle.token_grammar.specs.declared.token.TokenKind.{TokenKind}
 use Rattle.token_grammar.specs.declared.token.TokenKind.TheVariants as k
 use Rattle.token_grammar.specs.Texts.{Lexeme}
 use Rattle.token_grammar.specs.Kinds.{is_kind}
 use Rattle.token_grammar.specs.Input.{Parser, and_then, repeated, node as node_of}
-use Rattle.token_grammar.specs.Grammar.{Word, Rule, ◌>>=◌, node, many, start_of}
+use Rattle.token_grammar.specs.Grammar.{Rule, ◌>>=◌, node, many}
 use Rattle.token_grammar.proofs.Laws.{Exact, Some_}
 use Rattle.token_grammar.proofs.OneToken.{a_token, same_kind_refl}
 use Rattle.token_grammar.proofs.Steps.{exact_same, told_same}
@@ -20,7 +20,7 @@ use Rattle.st_expr.specs.Grammar as g
 use Rattle.st_expr.specs.Parse as p
 use Rattle.st_expr.proofs.Operators.{kinds_of, form_operators, sees_rank}
 use Rattle.st_expr.proofs.Arguments.{HasNames}
-use Rattle.st_expr.proofs.Leaves.{form_word, form_identifier, form_address, form_number, form_typed, form_time, form_truth}
+use Rattle.st_expr.proofs.Leaves.{form_identifier, form_address, form_number, form_typed, form_time, form_truth}
 use Rattle.st_expr.proofs.Rules.{operand_ends, form_unary}
 
 -- with what an expression begins

@@ -1,13 +1,12 @@
 -- The parsers of labels read their grammar.
-use Rattle.std.proofs.Common.{◌≡◌, ℕ, ◌+◌, ◌≤◌, ◌||◌, true, false, Some, List, [], ◌∷◌, ◌++◌, refl, ap, ◌∙◌, arith}
+use Rattle.std.proofs.Common.{ℕ, ◌+◌, ◌≤◌, true, false, List, [], ◌∷◌, ◌++◌, refl}
 use Rattle.token_grammar.specs.declared.token.TokenKind.{TokenKind}
 use Rattle.token_grammar.specs.declared.token.TokenKind.TheVariants as k
-use Rattle.token_grammar.specs.Texts.{Lexeme}
 use Rattle.token_grammar.specs.Input.{and_then, pure, take}
 use Rattle.token_grammar.specs.Grammar.{◌>>=◌, give, token, many}
 use Rattle.token_grammar.proofs.Laws.{Exact}
-use Rattle.token_grammar.proofs.Starts.{sees_any, Starts, Opens, IsLevel, starts_bind, starts_token, starts_option, bind_starts, bind_give, or_false}
-use Rattle.token_grammar.proofs.Forms.{Form, Anywhere, Carries, form_token, form_take, form_then, form_join, form_as, form_last, form_or, form_node, form_next, form_many_then, exact_optional, exact_after, Avoids, avoids_starts, avoids_or, avoids_bind, avoids_give, level_bind, level_give, level_or, level_node, level_many, level_then, level_token}
+use Rattle.token_grammar.proofs.Starts.{sees_any, Starts, IsLevel, starts_bind, starts_token, starts_option, bind_starts, bind_give, or_false}
+use Rattle.token_grammar.proofs.Forms.{Form, Anywhere, form_take, form_then, form_last, form_or, form_node, form_next, form_many_then, exact_optional, exact_after, Avoids, avoids_starts, avoids_or, avoids_bind, avoids_give, level_bind, level_give, level_or, level_node, level_many, level_then}
 use Rattle.st_tree.specs.declared.expression.Identifier.{Identifier}
 use Rattle.st_tree.specs.declared.statement.Label.{Label}
 use Rattle.st_tree.specs.declared.statement.Point.{Point}
@@ -16,7 +15,6 @@ use Rattle.st_expr.specs.StatementTrees.{make_point_number, make_point_typed, po
 use Rattle.st_expr.specs.Statements as g
 use Rattle.st_expr.specs.ParseStatements as p
 use Rattle.st_expr.proofs.Leaves.{form_word, level_word, form_identifier, level_identifier}
-use Rattle.st_expr.proofs.Operators.{or_is, last_is}
 use Rattle.st_expr.proofs.Rules.{one_comma}
 
 free : (d : ℕ) → Anywhere d → d + 0 ≤ 256 → Anywhere (d + 0)

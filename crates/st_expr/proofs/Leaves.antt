@@ -1,9 +1,9 @@
 -- The parsers of names, literals and operands of one token read their grammar.
-use Rattle.std.proofs.Common.{◌≡◌, ℕ, ◌+◌, Bool, false, List, [], ◌∷◌, refl, arith}
+use Rattle.std.proofs.Common.{ℕ, Bool, false, [], ◌∷◌, arith}
 use Rattle.token_grammar.specs.declared.token.TokenKind.{TokenKind}
 use Rattle.token_grammar.specs.declared.token.TokenKind.TheVariants as k
 use Rattle.token_grammar.proofs.Starts.{IsLevel}
-use Rattle.token_grammar.proofs.Forms.{Form, Body, Inner, form_token, form_take, form_as, form_node, level_token, level_bind, level_give, level_node, level_then}
+use Rattle.token_grammar.proofs.Forms.{Form, Body, form_token, form_take, form_as, form_node, level_token, level_bind, level_give, level_node, level_then}
 use Rattle.st_tree.specs.declared.expression.Part.TheVariants as part
 use Rattle.st_expr.specs.Trees.{make_identifier, make_address, make_number, make_typed, make_time, make_truth}
 use Rattle.st_expr.specs.Grammar as g

@@ -1,3 +1,4 @@
+mod Levels
 pub mod Operators
 pub mod Leaves
 pub mod Arguments
@@ -7,3 +8,6 @@ pub mod SimpleStatements
 pub mod LabelForms
 pub mod StatementExactness
 pub mod Numbers
+mod FrontLaws
+pub mod FrontAnswers
+pub mod CaseBranches

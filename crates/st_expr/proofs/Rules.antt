@@ -1,5 +1,5 @@
 -- The parsers of the rules that hold expressions read their grammar.
-use Rattle.std.proofs.Common.{◌≡◌, ℕ, zero, suc, ◌+◌, ◌<◌, ◌≤◌, Bool, true, false, cond, List, [], ◌∷◌, ◌++◌, refl, arith, inl}
+use Rattle.std.proofs.Common.{◌≡◌, ℕ, ◌+◌, ◌≤◌, Bool, true, false, cond, List, [], ◌∷◌, ◌++◌, refl, arith, inl}
 use Rattle.token_grammar.specs.declared.token.TokenKind.{TokenKind}
 use Rattle.token_grammar.specs.declared.token.TokenKind.TheVariants as k
 use Rattle.token_grammar.specs.Texts.{Lexeme}
@@ -10,7 +10,7 @@ use Rattle.token_grammar.proofs.OneToken.{never}
 use Rattle.token_grammar.proofs.Bind.{bind}
 use Rattle.token_grammar.proofs.Steps.{exact_give, exact_choose}
 use Rattle.token_grammar.proofs.Starts.{sees_any, disjoint, Starts, IsLevel, sees_other, starts_long, starts_bind, only_true, only_false, or_left, one_of, refuses_end, bind_starts, bind_give}
-use Rattle.token_grammar.proofs.Forms.{Form, Body, Inner, Anywhere, anywhere, body_carries, level_carries, form_token, form_take, form_then, form_next, form_as, form_last, form_or, form_node, form_scoped, form_deeper, exact_many, exact_list, exact_or_else, Avoids, avoids_starts, avoids_or, avoids_bind, avoids_many, avoids_give, level_bind, level_give, level_or, level_node, level_scoped, level_many, level_then}
+use Rattle.token_grammar.proofs.Forms.{Form, Body, Inner, Anywhere, anywhere, body_carries, level_carries, form_token, form_take, form_then, form_as, form_last, form_or, form_node, form_scoped, form_deeper, exact_many, exact_list, exact_or_else, Avoids, avoids_starts, avoids_or, avoids_bind, avoids_many, avoids_give, level_bind, level_give, level_or, level_node, level_scoped, level_many, level_then}
 use Rattle.st_tree.specs.declared.expression.Identifier.{Identifier}
 use Rattle.st_tree.specs.declared.expression.Root.TheVariants as root
 use Rattle.st_tree.specs.declared.expression.Expr.{Expr}

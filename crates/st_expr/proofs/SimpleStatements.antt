@@ -1,20 +1,17 @@
 -- The parsers of simple statements read their grammar.
-use Rattle.std.proofs.Common.{◌≡◌, ℕ, ◌+◌, ◌≤◌, List, [], ◌∷◌, ◌++◌, refl, ap, subst, ◌∙◌, arith}
+use Rattle.std.proofs.Common.{ℕ, ◌+◌, ◌≤◌, List, [], ◌∷◌, ◌++◌, refl, arith}
 use Rattle.token_grammar.specs.declared.token.TokenKind.{TokenKind}
 use Rattle.token_grammar.specs.declared.token.TokenKind.TheVariants as k
-use Rattle.token_grammar.specs.Texts.{Lexeme}
-use Rattle.token_grammar.specs.Input.{Parser, sees_in}
-use Rattle.token_grammar.specs.Grammar.{Rule, ◌>>=◌, give, token, node, many}
+use Rattle.token_grammar.specs.Grammar.{◌>>=◌, give, token, node, many}
 use Rattle.token_grammar.proofs.Laws.{Exact}
-use Rattle.token_grammar.proofs.Starts.{sees_any, disjoint, IsLevel, bind_starts, bind_give}
-use Rattle.token_grammar.proofs.Forms.{Form, Body, Inner, Anywhere, anywhere, Carries, level_carries, form_token, form_take, form_then, form_join, form_as, form_last, form_or, form_node, form_scoped, form_narrow, form_list, form_many_then, exact_optional, level_bind, level_give, level_or, level_node, level_scoped, level_many, level_then}
+use Rattle.token_grammar.proofs.Starts.{sees_any, IsLevel, bind_starts, bind_give}
+use Rattle.token_grammar.proofs.Forms.{Form, Body, Inner, Anywhere, anywhere, level_carries, form_token, form_take, form_then, form_join, form_as, form_last, form_or, form_node, form_scoped, form_narrow, form_list, form_many_then, exact_optional, level_bind, level_give, level_or, level_node, level_scoped, level_many, level_then}
 use Rattle.st_tree.specs.declared.expression.Identifier.{Identifier}
-use Rattle.st_tree.specs.declared.expression.Path.{Path}
 use Rattle.st_tree.specs.declared.expression.Part.{Part}
 use Rattle.st_tree.specs.declared.statement.Stmt.{Stmt}
 use Rattle.st_tree.specs.declared.statement.StmtArgument.{StmtArgument}
 use Rattle.st_expr.specs.StatementTrees.{path_from, argument_ended, input_of, output_of, assign_from, call_from, make_assign, make_return, make_exit, make_continue}
-use Rattle.st_expr.specs.Grammar.{expression as expression_rule, parts as parts_rule, located as located_rule, path as path_rule, more_parts as more_parts_rule}
+use Rattle.st_expr.specs.Grammar.{expression as expression_rule, located as located_rule, path as path_rule, more_parts as more_parts_rule}
 use Rattle.st_expr.specs.Parse as e
 use Rattle.st_expr.specs.Statements as g
 use Rattle.st_expr.specs.ParseStatements as p

@@ -1,10 +1,10 @@
 -- The parser of statements reads their grammar, to any depth.
-use Rattle.std.proofs.Common.{◌≡◌, ℕ, zero, suc, ◌+◌, ◌<◌, ◌≤◌, Bool, true, false, ◌||◌, cond, Option, Some, None, List, [], ◌∷◌, ◌++◌, refl, sym, ap, subst, ◌∙◌, arith, inl, inr}
+use Rattle.std.proofs.Common.{◌≡◌, ℕ, zero, suc, ◌+◌, ◌<◌, ◌≤◌, Bool, true, false, ◌||◌, cond, Option, Some, None, List, [], ◌∷◌, ◌++◌, refl, arith, inl, inr}
 use Rattle.token_grammar.specs.declared.token.TokenKind.{TokenKind}
 use Rattle.token_grammar.specs.declared.token.TokenKind.TheVariants as k
 use Rattle.token_grammar.specs.Texts.{Lexeme}
-use Rattle.token_grammar.specs.Input.{Parser, and_then, pure, take, repeated, choose, sees_in}
-use Rattle.token_grammar.specs.Grammar.{Word, Rule, ◌>>=◌, ◌or◌, give, token, token_as, many}
+use Rattle.token_grammar.specs.Input.{Parser, and_then, pure, take, sees_in}
+use Rattle.token_grammar.specs.Grammar.{Rule, ◌>>=◌, ◌or◌, give, token, token_as, many}
 use Rattle.token_grammar.proofs.Laws.{Exact, Some_}
 use Rattle.token_grammar.proofs.Bind.{bind}
 use Rattle.token_grammar.proofs.Steps.{exact_same, told_same}
@@ -12,7 +12,7 @@ use Rattle.token_grammar.proofs.OneToken.{a_token, same_kind_refl}
 use Rattle.token_grammar.specs.Kinds.{is_kind}
 use Rattle.token_grammar.proofs.Starts.{sees_any, disjoint, Starts, Opens, IsLevel, bind_starts, bind_give, starts_bind, starts_or, starts_scoped, starts_node, starts_token, starts_option, opens_bind, opens_or, opens_scoped, opens_node, opens_token}
 use Rattle.token_grammar.proofs.Loose.{Loose, loose_many}
-use Rattle.token_grammar.proofs.Forms.{Form, Inner, Anywhere, anywhere, Carries, level_carries, form_token, form_take, form_then, form_next, form_join, form_as, form_last, form_or, form_choose, form_node, form_scoped, form_narrow, form_list, form_many_then, exact_many, exact_list, exact_optional, exact_by, apart_optional, level_bind, level_give, level_or, level_node, level_scoped, level_many, level_then}
+use Rattle.token_grammar.proofs.Forms.{Form, Inner, Anywhere, anywhere, level_carries, form_take, form_then, form_next, form_join, form_as, form_last, form_or, form_choose, form_node, form_scoped, form_narrow, exact_many, exact_list, exact_optional, exact_by, apart_optional, level_bind, level_give, level_or, level_scoped, level_many, level_then}
 use Rattle.st_tree.specs.declared.expression.Identifier.{Identifier}
 use Rattle.st_tree.specs.declared.expression.Expr.{Expr}
 use Rattle.st_tree.specs.declared.statement.Stmt.{Stmt}
@@ -25,7 +25,7 @@ use Rattle.st_expr.specs.ParseStatements as p
 use Rattle.st_expr.proofs.Leaves.{form_identifier, level_identifier}
 use Rattle.st_expr.proofs.Operators.{or_is, last_is}
 use Rattle.st_expr.proofs.Exactness.{firsts, goes_on, form_expression, exact_expression, level_expression}
-use Rattle.st_expr.proofs.SimpleStatements.{Shallow, stays, behind_kinds, form_behind_name, level_behind_name, form_named, level_named, form_assign, form_return, form_exit, form_continue, level_word_stmt, level_assign}
+use Rattle.st_expr.proofs.SimpleStatements.{Shallow, stays, form_behind_name, level_behind_name, form_named, level_named, form_assign, form_return, form_exit, form_continue, level_word_stmt, level_assign}
 use Rattle.st_expr.proofs.LabelForms.{value_kinds, form_value_point, level_value_point, exact_point_behind, level_point_behind, exact_labels_behind, starts_labels_behind, level_labels_behind, form_labels, level_labels}
 
 -- with what a statement begins that doesn't begin with a name, and any other

@@ -180,6 +180,7 @@ unfoldable pub nested : ℕ → Rule Expr
 nested zero d w x e = ⊥
 nested (suc n) d w x e = whole (nested n) d w x e
 
--- An expression, in which expressions nest to whatever depth.
+-- An expression, in which expressions nest to whatever depth. (Each bound reads what a smaller one does, so that it may as well begin with one
+-- that the depth of no text reaches.)
 abbrev pub expression : Rule Expr
 expression d w x e = (n : ℕ) × nested (258 + n) d w x e

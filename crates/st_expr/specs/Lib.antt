@@ -7,3 +7,5 @@ pub mod Statements
 pub mod ParseStatements
 pub mod NestsStatements
 pub mod Held
+pub mod Fronts
+pub mod CaseLaws

@@ -1,5 +1,5 @@
 -- Expressions and paths as functions on lexemes: a step on the way from the code to the grammar.
-use Rattle.std.specs.Prelude.{ℕ, zero, suc, ◌+◌, Bool, true, false, ◌||◌, List, [], ◌∷◌, ◌++◌, Option, Some, None, Ok, Err}
+use Rattle.std.specs.Prelude.{ℕ, zero, suc, Bool, true, false, ◌||◌, List, [], ◌∷◌, ◌++◌, Option, Some, None, Err}
 use Rattle.token_grammar.specs.declared.fault.ParseError.TheVariants.{TooDeep}
 use Rattle.token_grammar.specs.declared.token.TokenKind.{TokenKind}
 use Rattle.token_grammar.specs.declared.token.TokenKind.TheVariants as k
@@ -167,6 +167,10 @@ module _ (inner : Parser Expr) where
   unfoldable pub level : ℕ → Parser Expr
   level zero = unary
   level (suc n) = node from_start (level n) >>= λ q. repeated (sees_operator (rank_of n)) (step (operators (rank_of n)) (level n) q.1) q.0
+
+  -- what a level adds to the one below: operators of its rank, behind a first operand
+  unfoldable pub chain : ℕ → ℕ → Expr → Parser Expr
+  chain n start left = repeated (sees_operator (rank_of n)) (step (operators (rank_of n)) (level n) start) left
 
   unfoldable pub whole : Parser Expr
   whole = scoped (level 7)

@@ -1,5 +1,5 @@
 -- The trees of statements, made of what is spelled and where it stands.
-use Rattle.std.specs.Prelude.{ℕ, Bool, true, false, List, [], ◌∷◌, ◌++◌, Option, Some, None}
+use Rattle.std.specs.Prelude.{ℕ, Bool, List, [], ◌∷◌, ◌++◌, Option, Some, None}
 use Rattle.std.specs.List.{fold}
 use Rattle.st_tree.specs.Places.{node_at}
 use Rattle.st_tree.specs.declared.node.Node.{Node}

@@ -1,12 +1,11 @@
 -- The trees of expressions, made of the first byte, the byte after the last, and what is spelled between.
-use Rattle.std.specs.Prelude.{ℕ, Bool, true, false, if◌then◌else◌, nat_eq, List, [], Option, Some, None}
+use Rattle.std.specs.Prelude.{ℕ, Bool, true, if◌then◌else◌, nat_eq, List, Option}
 use Rattle.st_expr.specs.declared.rank.Rank.{Rank}
 use Rattle.st_expr.specs.declared.rank.Rank.TheVariants.{Product, Sum, Order, Equality, And, Xor, Or}
 use Rattle.st_tree.specs.Places.{node_at}
 use Rattle.st_tree.specs.declared.expression.Identifier.{Identifier}
 use Rattle.st_tree.specs.declared.expression.Address.{Address}
 use Rattle.st_tree.specs.declared.expression.Root.{Root}
-use Rattle.st_tree.specs.declared.expression.UnaryOperator.{UnaryOperator}
 use Rattle.st_tree.specs.declared.expression.UnaryOperator.TheVariants.{Negate, Not}
 use Rattle.st_tree.specs.declared.expression.BinaryOperator.{BinaryOperator}
 use Rattle.st_tree.specs.declared.expression.Expr.{Expr}

@@ -346,24 +346,42 @@ impl<F: Fn(Global, &mut Cursor<'_>, usize) -> Result<Expr, ParseError>> Grammar<
         }
     }
 
-    /// Operators of the ranks below the level.
+    /// Operators of the ranks below the level. The first operand is read once, and not again for each rank, so that expressions may nest deep.
+    #[cycle(levels)]
     #[tactic(auto, unfolding(crate::specs::Parse::level))]
     fn level(&self, cursor: &mut Cursor<'_>, level: u8) -> Result<Expr, ParseError>
         requires { Nests self.now.nest (F.pre self.now.expr) (F.post self.now.expr) }
         ensures { Reads (spec.level (spec.nested self.now.nest) level (view cursor.old)) result (view cursor.new) }
     {
-        if level == 0 {
-            return self.unary(cursor);
-        }
-        let rank = rank_of(level - 1);
         let start = cursor.start();
-        let mut left = self.level(cursor, level - 1)?;
+        let mut left = self.unary(cursor)?;
+        for rank in 0..level {
+            left = self.chain(cursor, rank, start, left)?;
+        }
+        Ok(left)
+    }
+
+    /// `{ operator operand }` of one rank, behind a first operand.
+    #[cycle(levels)]
+    #[tactic(auto, unfolding(crate::specs::Parse::chain))]
+    fn chain(
+        &self,
+        cursor: &mut Cursor<'_>,
+        level: u8,
+        start: usize,
+        first: Expr,
+    ) -> Result<Expr, ParseError>
+        requires { Nests self.now.nest (F.pre self.now.expr) (F.post self.now.expr) }
+        ensures { Reads (spec.chain (spec.nested self.now.nest) level start first (view cursor.old)) result (view cursor.new) }
+    {
+        let rank = rank_of(level);
+        let mut left = first;
         for _turn in 0..cursor.rest.len() {
             if !sees_operator(cursor, rank) {
                 return Ok(left);
             }
             let operator = operators(cursor, rank)?;
-            let right = self.level(cursor, level - 1)?;
+            let right = self.level(cursor, level)?;
             left = binary(
                 self.alloc,
                 node_at(start, cursor.last),

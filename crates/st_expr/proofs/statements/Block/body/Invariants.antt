@@ -1,5 +1,5 @@
 use Rattle.std.proofs.Common.{◌≡◌, ◌-◌}
-use Rattle.token_grammar.specs.Input.{view, loop, sees_in}
+use Rattle.token_grammar.specs.Input.{view, loop}
 use Rattle.st_expr.specs.ParseStatements.{nested, body, item, sees_statement}
 use Rattle.st_expr.proofs.statements.Block.body.Given as goal
 

@@ -1,5 +1,5 @@
 use Rattle.std.proofs.Common.{◌≡◌, ◌-◌}
-use Rattle.token_grammar.specs.Input.{view, loop, sees_in}
+use Rattle.token_grammar.specs.Input.{view, loop}
 use Rattle.st_expr.specs.Held.{branches_of}
 use Rattle.st_expr.specs.ParseStatements.{nested, case_items, case_item, sees_case_item}
 use Rattle.st_expr.proofs.statements.Block.case_items.Given as goal
