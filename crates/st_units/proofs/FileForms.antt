@@ -1,5 +1,5 @@
 -- What the parser of a file answers, read to the end of the lexemes.
-use Rattle.std.proofs.Common.{◌≡◌, ℕ, Bool, true, false, List, [], ◌∷◌, ◌++◌, Result, Ok, Err, refl, sym, ap, subst, ◌∙◌, append_assoc, arith}
+use Rattle.std.proofs.Common.{◌≡◌, ℕ, Bool, true, false, List, [], ◌∷◌, ◌++◌, Result, Ok, Err, refl, sym, ap, subst, ◌∙◌, append_assoc, arith, ◌⊎◌, inl, inr}
 use Rattle.std.proofs.lemmas.List.{append-nil}
 use Rattle.token_grammar.specs.declared.token.TokenKind.{TokenKind}
 use Rattle.token_grammar.specs.declared.token.TokenKind.TheVariants as k
@@ -8,14 +8,14 @@ use Rattle.token_grammar.specs.declared.fault.ParseError.TheVariants as cause
 use Rattle.token_grammar.specs.Texts.{Lexeme}
 use Rattle.token_grammar.specs.Input.{Input, Stop, Outcome, Parser, and_then, pure, Reads}
 use Rattle.token_grammar.specs.Grammar.{Word, Rule, lexemes_of, Begins, Stops, Spells, SpellsFront, IsFault, IsTooDeep}
-use Rattle.token_grammar.proofs.Laws.{input, Exact}
+use Rattle.token_grammar.proofs.Laws.{Told, Reason, input, Exact}
 use Rattle.token_grammar.proofs.Front.{spells, is_fault, is_too_deep}
 use Rattle.token_grammar.proofs.OneFront.{begins_first}
 use Rattle.token_grammar.proofs.Starts.{sees_any, disjoint, IsLevel, none_of_any}
 use Rattle.token_grammar.proofs.Loose.{Loose}
 use Rattle.st_tree.specs.declared.statement.Stmt.{Stmt}
 use Rattle.st_tree.specs.declared.file.FilePart.{FilePart}
-use Rattle.st_units.specs.Answers.{IsBroken, IsAnswer}
+use Rattle.st_units.specs.Answers.{IsBroken}
 use Rattle.st_units.specs.Grammar as g
 use Rattle.st_units.specs.Parse as p
 use Rattle.st_units.proofs.Lists.{Here}
@@ -60,6 +60,13 @@ broken_front L ts x t r h = record {
 
 spelled_front : {A : Type 0} (L : Rule A) (ts : List Lexeme) (x : A) → SpellsFront L 0 ts x [] → Spells L ts x
 spelled_front L ts x h = record { word = h.word; depth = h.depth; tokens = sym (h.tokens ∙ append-nil (lexemes_of h.word)); spelled = h.spelled; within = h.within }
+
+-- All lexemes spell the value; or the grammar is broken at the rest, or a lexeme stands too deep there; or memory fails.
+abbrev pub IsAnswer : {A : Type 0} → Rule A → List Lexeme → Result A ParseError → List Lexeme → Type 0
+IsAnswer L ts (Ok x) rest = Spells L ts x
+IsAnswer L ts (Err cause.Memory) rest = Unit {0}
+IsAnswer L ts (Err cause.Grammar) rest = IsBroken L ts rest
+IsAnswer L ts (Err cause.TooDeep) rest = IsTooDeep L 0 ts rest
 
 -- ---- what is answered, by what the parts answer
 
@@ -126,6 +133,26 @@ module _ {A : Type 0} {parts : Parser A} {L : Rule A} {more : List Lexeme → Bo
   answered_by (Err cause.Memory) new reads = tt
   answered_by (Err cause.Grammar) new reads = fault_by (parts start) new.rest refl (reads (λ e. cc))
   answered_by (Err cause.TooDeep) new reads = deep_by (parts start) new.rest refl (reads (λ e. cc))
+
+  -- the lexemes spell a value, or there is a fault
+  abbrev pub HasAnswer : Type 0
+  HasAnswer = ((x : A) × Spells L ts x) ⊎ (((rest : List Lexeme) × IsBroken L ts rest) ⊎ ((rest : List Lexeme) × IsTooDeep L 0 ts rest))
+
+  some_refused : (s : Stop) (code : ParseError) → parts start ≡ err_of s → s.code ≡ code → HasAnswer
+  some_refused s cause.Memory e is = absurd (let told = subst (Told L start) e (h.told start here) in subst (λ (c : ParseError). Reason c told.more s.rest) is told.reason)
+  some_refused s cause.Grammar e is = inr (inl (s.rest, broken_fault L ts s.rest (is_fault h open_end start here s.rest (e ∙ ap (λ (c : ParseError). err_of (record { code = c; rest = s.rest })) is))))
+  some_refused s cause.TooDeep e is = inr (inr (s.rest, is_too_deep h open_end start here s.rest (e ∙ ap (λ (c : ParseError). err_of (record { code = c; rest = s.rest })) is)))
+
+  some_read : (x : A) (o : Input) (rest : List Lexeme) → parts start ≡ Ok (x, o) → o.rest ≡ rest → HasAnswer
+  some_read x o [] e is = inl (x, spelled_front L ts x (subst (SpellsFront L 0 ts x) is (front x o e)))
+  some_read x o (t ∷ r) e is = inr (inl (t ∷ r, broken_front L ts x t r (subst (SpellsFront L 0 ts x) is (front x o e))))
+
+  some_by : (out : Outcome A) → parts start ≡ out → HasAnswer
+  some_by (Ok q) e = some_read q.0 q.1 q.1.rest e refl
+  some_by (Err s) e = some_refused s s.code e refl
+
+  pub some_answer : HasAnswer
+  some_answer = some_by (parts start) refl
 
 -- ---- a file
 

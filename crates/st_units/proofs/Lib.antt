@@ -5,3 +5,5 @@ pub mod DeclForms
 pub mod ConfigForms
 pub mod UnitForms
 pub mod FileForms
+pub mod FileAnswers
+pub mod CommentTrees
