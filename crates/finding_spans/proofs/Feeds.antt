@@ -6,7 +6,7 @@ use Rattle.std.specs.Prelude.{nat_eq}
 use Rattle.std.specs.List.{prefix_len}
 use Rattle.std.specs.List.Sorted.{IsNonDecreasingBy, IsPartitionedBy, IsPartitionPoint}
 use Rattle.std.proofs.lemmas.List.Sorted.{IsPartitionedBy-ltb}
-use Rattle.first_form.specs.Feeds.{feeds_from}
+use Rattle.st_tree.specs.Feeds.{feeds_from}
 use Rattle.finding_spans.specs.Places.{feeds, IsBehind}
 use Rattle.finding_spans.specs.Searches.{last_of_first}
 use Rattle.finding_spans.proofs.Lines.{first, feeds_append, no_feed}

@@ -3,7 +3,7 @@
 use iec_tables::fault::FaultCode;
 use iec_tables::kind::Kind;
 use sqlite_items::Items;
-use st_tree::Site;
+use st_tree::{PlanRefusal, Site};
 use station_ports::texts::Name;
 
 /// The number of alarms of a report.
@@ -27,6 +27,7 @@ pub enum Verdict {
     Free,
     Alarms(AlarmCount),
     Refused(Refusal),
+    NotAnalysed(PlanRefusal),
 }
 
 /// A possible run-time fault: its kind, the unit and the subject that it is reported under (with ASCII letters raised), its node, and

@@ -5,7 +5,7 @@ ghost use Rattle.std.specs.List.{find, filter};
 ghost use Rattle.std.specs.Option.{option_copied};
 ghost use Rattle.first_form.specs.declared.tree.Unit.{Unit as SourceUnit};
 ghost use Rattle.first_form.specs.declared.tree.Stmt.{Stmt as Statement};
-ghost use Rattle.first_form.specs.Feeds.{feeds_from};
+ghost use Rattle.st_tree.specs.Feeds.{feeds_from};
 ghost use Rattle.first_form.specs.Nodes.{IsNumbered, nodes_of, unit_nodes, stmt_nodes, section_nodes, decl_nodes};
 ghost use Rattle.finding_spans.specs.Places.{IsPosition, IsBehind, IsReportedAt, has_number, holds, last_of, holder_of, decl_holders, unit_holders, stmt_node};
 ghost use Rattle.finding_spans.specs.Searches.{IsAmong, last_of_first};

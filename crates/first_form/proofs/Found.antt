@@ -13,7 +13,8 @@ use Rattle.first_form.proofs.laws.Flat.{not_deep}
 use Rattle.first_form.specs.declared.tree.Unit.{Unit as SourceUnit}
 use Rattle.first_form.specs.Bare.{bare_unit}
 use Rattle.first_form.specs.Answers.{Refuses, fault_of}
-use Rattle.first_form.specs.FirstForm.{program, words_of, IsRefused, place_at}
+use Rattle.first_form.specs.FirstForm.{program, IsRefused}
+use Rattle.token_grammar.specs.Kept.{words_of, place_at}
 use Rattle.first_form.specs.Parse as p
 use Rattle.first_form.proofs.Exactness.{exact_program}
 use Rattle.first_form.proofs.Flat.{flat_program}

@@ -28,7 +28,8 @@ use Rattle.first_form.specs.Nodes.{nodes_of, place_of, path_nodes, expr_nodes, s
 use Rattle.first_form.specs.Bare.{node_at, bare_node, bare_expr, bare_stmt, bare_unit}
 use Rattle.first_form.specs.Names.{Names, has, declared_in, ExprUses, StmtUses, BodyUses, UsesDeclared}
 use Rattle.first_form.specs.FirstForm as form
-use Rattle.first_form.specs.FirstForm.{Parts, IsTree, is_known, is_kept, words_of, program}
+use Rattle.first_form.specs.FirstForm.{Parts, IsTree, is_known, program}
+use Rattle.token_grammar.specs.Kept.{is_kept, words_of}
 use Rattle.first_form.proofs.Trees.{binary_nodes, declared_in_bare}
 use Rattle.first_form.proofs.OneTree.{unit}
 

@@ -9,7 +9,8 @@ use Rattle.first_form.specs.declared.tree.Unit.{Unit as SourceUnit}
 use Rattle.first_form.specs.declared.tree.SourceTree.{SourceTree}
 use Rattle.first_form.specs.Bare.{bare_unit}
 use Rattle.first_form.specs.Nodes.{CountsFrom, unit_nodes}
-use Rattle.first_form.specs.FirstForm.{program, words_of, IsTree, IsRefused}
+use Rattle.first_form.specs.FirstForm.{program, IsTree, IsRefused}
+use Rattle.token_grammar.specs.Kept.{words_of}
 use Rattle.first_form.specs.declared.file.ParseFault.{ParseFault}
 use Rattle.first_form.specs.declared.file.ParseFault.TheVariants.{At, NoMemory}
 

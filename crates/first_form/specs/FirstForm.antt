@@ -11,14 +11,14 @@
 -- A name is declared once, and a path names a declared variable. A minus where a term begins is part of the literal; behind a term it
 -- is the operator. Sums group to the left. A number is decimal digits of a value up to 32767, directly behind which neither `#` nor `.` stands. Comments and pragmas
 -- are passed over. The code reads from left to right, with a look ahead at the operators of a sum, and numbers the nodes as it goes.
-use Rattle.std.specs.Prelude.{◌≡◌, ℕ, ◌-◌, ◌^◌, min, ◌&&◌, ◌||◌, Bool, true, false, not, nat_eq, nat_le, List, [], ◌∷◌, ◌++◌, length}
-use Rattle.std.specs.List.{list_all, list_any, filter}
+use Rattle.std.specs.Prelude.{◌≡◌, ℕ, ◌-◌, ◌^◌, min, ◌&&◌, ◌||◌, Bool, true, false, not, nat_eq, nat_le, List, [], ◌∷◌, ◌++◌}
+use Rattle.std.specs.List.{list_all, list_any}
 use Rattle.iec_tables.specs.declared.elem.Elem.TheVariants as elem
-use Rattle.token_grammar.specs.declared.token.TokenKind.{TokenKind}
-use Rattle.token_grammar.specs.declared.token.TokenKind.TheVariants.{Comment, Pragma, Program, EndProgram, Var, EndVar, Int, Name, Number, Becomes, Colon, Comma, Semicolon, Plus, Minus}
+use Rattle.token_grammar.specs.declared.token.TokenKind.TheVariants.{Program, EndProgram, Var, EndVar, Int, Name, Number, Becomes, Colon, Comma, Semicolon, Plus, Minus}
 use Rattle.token_grammar.specs.declared.token.Token.{Token}
-use Rattle.token_grammar.specs.Texts.{Lexeme, lexemes, name_of, number_of}
-use Rattle.token_grammar.specs.Kinds.{same_kind, is_kind}
+use Rattle.token_grammar.specs.Texts.{Lexeme, name_of, number_of}
+use Rattle.token_grammar.specs.Kept.{words_of, place_at}
+use Rattle.token_grammar.specs.Kinds.{is_kind}
 use Rattle.token_grammar.specs.Grammar.{Rule, give, token, token_that, ◌>>=◌, ◌or◌, many, node, Spells, IsLongest}
 use Rattle.first_form.specs.declared.tree.Identifier.{Identifier}
 use Rattle.first_form.specs.declared.tree.Path.{Path}
@@ -37,7 +37,7 @@ use Rattle.first_form.specs.declared.tree.SourceTree.{SourceTree}
 use Rattle.first_form.specs.Nodes.{IsNumbered, place_of}
 use Rattle.first_form.specs.Bare.{node_at, bare_unit}
 use Rattle.first_form.specs.Names.{Names, has, names_of, declared, declared_in}
-use Rattle.first_form.specs.Feeds.{feeds_from}
+use Rattle.st_tree.specs.Feeds.{feeds_from}
 
 -- ---- values with their places, from their first byte to the byte after their last
 
@@ -209,17 +209,6 @@ program = node make_unit (do
 
 -- ---- files
 
--- the grammar passes over comments and pragmas
-abbrev pub keeps : TokenKind → Bool
-keeps kind = not (same_kind kind Comment || same_kind kind Pragma)
-
-abbrev pub is_kept : Token → Bool
-is_kept t = keeps t.kind
-
--- the lexemes of the tokens that are kept
-abbrev pub words_of : List ℕ → List Token → List Lexeme
-words_of text tokens = lexemes text (filter is_kept tokens)
-
 -- The tokens of a text spell this tree: that of one program, its nodes numbered, with the text's line feeds.
 pub record IsTree (text : List ℕ) (tokens : List Token) (tree : SourceTree) : Type 0 where
   pub unit : SourceUnit
@@ -228,11 +217,6 @@ pub record IsTree (text : List ℕ) (tokens : List Token) (tree : SourceTree) : 
   -- (what is spelled has no numbers)
   pub spelled : Spells program (words_of text tokens) (bare_unit unit)
   pub numbered : IsNumbered tree
-
--- the first byte of the next lexeme, or the text's length
-abbrev pub place_at : List ℕ → List Lexeme → ℕ
-place_at text [] = length text
-place_at text (l ∷ ls) = l.start
 
 -- The tokens spell no tree, and with the one at this place they no longer begin one.
 pub record IsRefused (text : List ℕ) (tokens : List Token) (at : ℕ) : Type 0 where

@@ -1,4 +1,3 @@
-pub mod Feeds
 pub mod Nodes
 pub mod Bare
 pub mod Names

@@ -4,8 +4,9 @@ use Rattle.std.specs.Fmt.{signed_decimal}
 use Rattle.iec_tables.specs.Kinds as kinds
 use Rattle.iec_tables.specs.Faults as faults
 use Rattle.iec_tables.specs.declared.fault.FaultCode.{FaultCode}
+use Rattle.st_tree.specs.Plans as plans
 use Rattle.finding_spans.specs.declared.report.Verdict.{Verdict}
-use Rattle.finding_spans.specs.declared.report.Verdict.TheVariants.{Free, Alarms, Refused}
+use Rattle.finding_spans.specs.declared.report.Verdict.TheVariants.{Free, Alarms, Refused, NotAnalysed}
 use Rattle.finding_spans.specs.declared.report.Refusal.{Refusal}
 use Rattle.finding_spans.specs.declared.report.Alarm.{Alarm}
 use Rattle.finding_spans.specs.declared.report.Entry.{Entry}
@@ -20,7 +21,7 @@ place file line column = file ++ codes ":" ++ decimal line ++ codes ":" ++ decim
 unfoldable pub bounds : ℤ → ℤ → List ℕ
 bounds low high = signed_decimal low ++ codes ".." ++ signed_decimal high
 
--- the number and the name of a fault, `8 NotBuilt`
+-- the number and the name of a fault, `6 Grammar`
 unfoldable pub fault : FaultCode → List ℕ
 fault code = decimal (faults.code_of code) ++ codes " " ++ faults.name_of code
 
@@ -31,6 +32,7 @@ abbrev pub verdict_line : Verdict → List ℕ
 verdict_line Free = codes "VERDICT FREE\n"
 verdict_line (Alarms alarms) = codes "VERDICT ALARMS " ++ decimal alarms.count ++ codes "\n"
 verdict_line (Refused refusal) = refusal_line refusal
+verdict_line (NotAnalysed reason) = codes "VERDICT NOT ANALYSED " ++ plans.name_of reason ++ codes "\n"
 
 -- what kind of fault an alarm is of, and what it is reported under
 abbrev pub alarm_head : Alarm → List ℕ

@@ -32,6 +32,11 @@ fn put_verdict(out: &mut Vec<u8>, verdict: &Verdict) -> Result<(), AllocError>
             put(out, b"\n")
         }
         Verdict::Refused(refusal) => put_refusal(out, refusal),
+        Verdict::NotAnalysed(reason) => {
+            put(out, b"VERDICT NOT ANALYSED ")?;
+            put(out, reason.name().as_bytes())?;
+            put(out, b"\n")
+        }
     }
 }
 

@@ -11,7 +11,7 @@ use Rattle.station_cli.specs.Words.{Command, check, command_of}
 use Rattle.station_cli.specs.Run.{World, Course, misused, checked, too_long, unread, out_of_memory, Happens, status_of, is_settled, max_file, after_fault, status_after, IsWork, IsWritten}
 use Rattle.station_cli.specs.Causes.{IsCalm, Completes, Ends, EndsRead, IsToldAbove}
 use Rattle.station_cli.specs.declared.status.Status.{Status}
-use Rattle.station_cli.specs.declared.status.Status.TheVariants.{Clean, Open, Refused, Usage, ReadFault, WriteFault, NoMemory, TooLong}
+use Rattle.station_cli.specs.declared.status.Status.TheVariants.{Clean, Open, NotAnalysed, Refused, Usage, ReadFault, WriteFault, NoMemory, TooLong}
 
 -- a count that is the next one rose
 pub risen : (before now : ℕ) → IsNextCount before now → Rose before now
@@ -52,6 +52,7 @@ after_put : (old_out new_out : PortView) (status ended : Status) → Rose old_ou
 after_put old_out new_out NoMemory ended rose e = inr (inr e)
 after_put old_out new_out Clean ended rose e = inr (inl (e, rose))
 after_put old_out new_out Open ended rose e = inr (inl (e, rose))
+after_put old_out new_out NotAnalysed ended rose e = inr (inl (e, rose))
 after_put old_out new_out Refused ended rose e = inr (inl (e, rose))
 after_put old_out new_out Usage ended rose e = inr (inl (e, rose))
 after_put old_out new_out ReadFault ended rose e = inr (inl (e, rose))

@@ -17,7 +17,6 @@ use Rattle.st_tree.specs.Writes.{WritesCells}
 use Rattle.finding_spans.specs.declared.report.Alarm.{Alarm}
 use Rattle.finding_spans.specs.declared.report.Entry.{Entry}
 use Rattle.finding_spans.specs.declared.report.RangeLine.{RangeLine}
-use Rattle.finding_spans.specs.declared.report.Refusal.{Refusal}
 use Rattle.finding_spans.specs.declared.report.Report.{Report}
 use Rattle.finding_spans.specs.declared.report.Verdict.TheVariants as verdict
 use Rattle.task_config.specs.Plan.{IsComponent, IsTask}
@@ -32,7 +31,7 @@ use Rattle.cycle_analysis.proofs.Sites.{told_at, told_apart}
 use Rattle.cycle_analysis.proofs.Told.{pass_has_ranges}
 use Rattle.cycle_analysis.proofs.Rising.{same_node}
 use Rattle.station_cli.specs.Report.{IsReportOf}
-use Rattle.station_cli.specs.Reports.{IsCounted}
+use Rattle.station_cli.specs.Reports.{IsCounted, IsOfAnalysis}
 use Rattle.station_cli.specs.Parsing.{IsAnalysable}
 use Rattle.station_cli.specs.Lines.{AreEntriesOf, IsInBody, lines_of}
 use Rattle.station_cli.proofs.Planned.{body_operators}
@@ -76,7 +75,7 @@ pub record IsMadeOf (entries : List (Entry Alarm)) (lines : List RangeLine) (rep
   pub alarms : report.alarms ≡ entries
   pub ranges : report.ranges ≡ lines
   pub counted : IsCounted report
-  pub no_refusal : (refusal : Refusal) → report.verdict ≡ verdict.Refused refusal → ⊥
+  pub analysed : IsOfAnalysis report.verdict
   pub waived : report.waived_count ≡ 0
 
 pub is_report : (name text : List ℕ) (tree : SourceTree) (component : Component) (grid : List ℤ) (s : Solution) (entries : List (Entry Alarm)) (lines : List RangeLine) (report : Report) (is : IsAnalysable text tree)
@@ -108,7 +107,7 @@ is_report name text tree component grid s entries lines report is a made lines_a
       solved = a.solution a.writes;
       alarms = rw r.alarms (are_alarms log ranges apart name text tree is.unit s.alarms.items entries sorted (made in_body) a.ordered files);
       ranges = rw r.ranges (are_ranges component task s lines a.planned.tasks a.planned.shared (a.ranges task first) lines_are);
-      no_refusal = r.no_refusal;
+      analysed = r.analysed;
       counted = r.counted;
       waived = r.waived;
     }

@@ -5,8 +5,6 @@ use Rattle.std.specs.List.{Contains}
 use Rattle.std.proofs.lemmas.Option.{same_Some}
 use Rattle.interval_domain.proofs.OneGrid.{one_grid}
 use Rattle.token_grammar.specs.declared.token.Token.{Token}
-use Rattle.token_grammar.specs.Texts.{Lexeme}
-use Rattle.first_form.proofs.laws.OneFront.{one_rest}
 use Rattle.st_lexer.specs.Laws.{OneCut, OneFault, NotBoth}
 use Rattle.iec_tables.specs.declared.fault.FaultCode.{FaultCode}
 use Rattle.first_form.specs.declared.tree.Unit.{Unit as SourceUnit}
@@ -15,7 +13,7 @@ use Rattle.st_tree.specs.declared.code.TaskCode.{TaskCode}
 use Rattle.st_tree.specs.declared.code.Component.{Component}
 use Rattle.st_tree.specs.Code.{reading}
 use Rattle.first_form.specs.Nodes.{IsNumbered}
-use Rattle.first_form.specs.FirstForm.{program, place_at, words_of, IsTree, IsRefused}
+use Rattle.first_form.specs.FirstForm.{IsTree}
 use Rattle.first_form.specs.Laws.{OneTree}
 use Rattle.task_config.specs.Plan.{IsTask, IsComponent}
 use Rattle.cycle_analysis.specs.Pass.{Entry as Told, Passed}
@@ -24,10 +22,14 @@ use Rattle.cycle_analysis.proofs.OneTable.{AreAlike, same_pass, one_table}
 use Rattle.finding_spans.proofs.OnePosition.{one_position}
 use Rattle.finding_spans.specs.declared.report.Refusal.{Refusal}
 use Rattle.finding_spans.specs.declared.report.Report.{Report}
-use Rattle.station_cli.specs.Report.{AreAlarms, AreRanges, IsReportOf, IsAnalysed, IsFaultAt, IsRefusal, IsReport}
+use Rattle.station_cli.specs.Report.{AreAlarms, AreRanges, IsReportOf, IsWhole, IsAnalysed, IsFaultAt, IsRefusal, IsUnbuilt, IsReport}
+use Rattle.st_tree.specs.declared.plan.PlanRefusal.TheVariants.{NotBuilt}
+use Rattle.st_units.specs.Files.{IsFile, IsFileFault}
+use Rattle.st_units.specs.FileLaws.{OneFileFault, NoneOfBoth}
+use Rattle.st_lexer.specs.Cut.{IsCut}
 use Rattle.station_cli.proofs.OneAlarms.{one_alarms}
 use Rattle.station_cli.proofs.OneRanges.{one_ranges}
-use Rattle.station_cli.proofs.OneVerdict.{one_plain, one_refused}
+use Rattle.station_cli.proofs.OneVerdict.{one_plain, one_refused, one_unbuilt}
 
 -- ---- a text that is analysed
 
@@ -67,7 +69,7 @@ one_report_of name text tree made other numbered a b =
     let told : AreAlarms name text tree a.unit (pass_of a.task a.table 0).log other.alarms =
     subst (λ (l : List Told). AreAlarms name text tree a.unit l other.alarms) log (subst (λ (u : SourceUnit). AreAlarms name text tree u (pass_of b.task b.table 0).log other.alarms) unit b.alarms) in
     let ranges : AreRanges b.task a.table other.ranges = subst (λ (t : List Part). AreRanges b.task t other.ranges) table b.ranges in
-    one_plain made other (record { no_refusal = a.no_refusal; counted = a.counted; waived = a.waived }) (record { no_refusal = b.no_refusal; counted = b.counted; waived = b.waived })
+    one_plain made other (record { analysed = a.analysed; counted = a.counted; waived = a.waived }) (record { analysed = b.analysed; counted = b.counted; waived = b.waived })
     (one_alarms name text tree a.unit (pass_of a.task a.table 0).log a.units numbered made.alarms other.alarms a.alarms told)
     (one_ranges a.task b.task a.table made.ranges other.ranges same.cells a.ranges ranges)
 
@@ -76,19 +78,9 @@ one_report_of name text tree made other numbered a b =
 abbrev refusal_at : (name : List ℕ) → (line column : ℕ) → FaultCode → Refusal
 refusal_at name line column code = record { file = name; line = line; column = column; code = code }
 
--- the tokens no longer spell anything at one place
-one_place : (text : List ℕ) (tokens : List Token) (at place : ℕ) → IsRefused text tokens at → IsRefused text tokens place → at ≡ place
-one_place text tokens at place a b =
-    let rest : a.rest ≡ b.rest = one_rest program (words_of text tokens) a.rest b.rest a.longest b.longest in
-    a.place ∙ ap (λ (ls : List Lexeme). place_at text ls) rest ∙ sym b.place
-
--- what is analysed isn't refused for its grammar
-not_refused : (text : List ℕ) (xs ys : List Token) (tree : SourceTree) (at : ℕ) → xs ≡ ys → IsTree text xs tree → IsRefused text ys at → ⊥
-not_refused text xs ys tree at e is refused = refused.unspelled tree (subst (λ (ts : List Token). IsTree text ts tree) e is)
-
 -- ---- the law, from those of the lexer and the parser
 
-module _ (one_cut : OneCut) (one_fault : OneFault) (not_both : NotBoth) (one_tree : OneTree) where
+module _ (one_cut : OneCut) (one_fault : OneFault) (not_both : NotBoth) (one_tree : OneTree) (one_file_fault : OneFileFault) (none_of_both : NoneOfBoth) where
   analysed : (name text : List ℕ) (made other : Report) → IsAnalysed name text made → IsAnalysed name text other → made ≡ other
   analysed name text made other a b =
       let tokens : a.tokens ≡ b.tokens = one_cut text a.tokens b.tokens a.cut b.cut in
@@ -98,15 +90,19 @@ module _ (one_cut : OneCut) (one_fault : OneFault) (not_both : NotBoth) (one_tre
   -- a text has one fault at most
   same_fault : (text : List ℕ) (c d : FaultCode) (at place : ℕ) → IsFaultAt text c at → IsFaultAt text d place → (c ≡ d) × (at ≡ place)
   same_fault text c d at place (inl x) (inl y) = one_fault text c d at place x y
-  same_fault text c d at place (inl x) (inr (e, tokens, cut, r)) = absurd (not_both text tokens c at cut x)
-  same_fault text c d at place (inr (e, tokens, cut, r)) (inl y) = absurd (not_both text tokens d place cut y)
-  same_fault text c d at place (inr (e, xs, x, r)) (inr (f, ys, y, s)) =
-      (e ∙ sym f, one_place text ys at place (subst (λ (ts : List Token). IsRefused text ts at) (one_cut text xs ys x y) r) s)
+  same_fault text c d at place (inl x) (inr (tokens, cut, r)) = absurd (not_both text tokens c at cut x)
+  same_fault text c d at place (inr (tokens, cut, r)) (inl y) = absurd (not_both text tokens d place cut y)
+  same_fault text c d at place (inr (xs, x, r)) (inr (ys, y, s)) =
+      one_file_fault text ys c d at place (subst (λ (ts : List Token). IsFileFault text ts c at) (one_cut text xs ys x y) r) s
 
-  -- a text with a fault isn't analysed
-  faultless : (name text : List ℕ) (made : Report) (code : FaultCode) (at : ℕ) → IsAnalysed name text made → IsFaultAt text code at → ⊥
-  faultless name text made code at a (inl x) = not_both text a.tokens code at a.cut x
-  faultless name text made code at a (inr (e, tokens, cut, r)) = not_refused text a.tokens tokens a.tree at (one_cut text a.tokens tokens a.cut cut) a.spelled r
+  -- a text whose tokens spell a file has no fault
+  faultless : (text : List ℕ) (tokens : List Token) (code : FaultCode) (at : ℕ) → IsCut text tokens → IsWhole text tokens → IsFaultAt text code at → ⊥
+  faultless text tokens code at cut whole (inl x) = not_both text tokens code at cut x
+  faultless text tokens code at cut whole (inr (ys, y, r)) = none_of_both text ys whole.0 code at (subst (λ (ts : List Token). IsFile text ts whole.0) (one_cut text tokens ys cut y) whole.1) r
+
+  -- a text that is analysed is of the form whose analysis is built
+  built : (name text : List ℕ) (made other : Report) → IsAnalysed name text made → IsUnbuilt text other → ⊥
+  built name text made other a u = u.other a.tree (subst (λ (ts : List Token). IsTree text ts a.tree) (one_cut text a.tokens u.tokens a.cut u.cut) a.spelled)
 
   one_refusal : (name text : List ℕ) (made other : Report) → IsRefusal name text made → IsRefusal name text other → made ≡ other
   one_refusal name text made other a b =
@@ -117,6 +113,11 @@ module _ (one_cut : OneCut) (one_fault : OneFault) (not_both : NotBoth) (one_tre
 
   pub one_report : (name text : List ℕ) (made other : Report) → IsReport name text made → IsReport name text other → made ≡ other
   one_report name text made other (inl a) (inl b) = analysed name text made other a b
-  one_report name text made other (inl a) (inr b) = absurd (faultless name text made b.code b.at a b.fault)
-  one_report name text made other (inr a) (inl b) = absurd (faultless name text other a.code a.at b a.fault)
-  one_report name text made other (inr a) (inr b) = one_refusal name text made other a b
+  one_report name text made other (inl a) (inr (inl b)) = absurd (faultless text a.tokens b.code b.at a.cut a.whole b.fault)
+  one_report name text made other (inl a) (inr (inr b)) = absurd (built name text made other a b)
+  one_report name text made other (inr (inl a)) (inl b) = absurd (faultless text b.tokens a.code a.at b.cut b.whole a.fault)
+  one_report name text made other (inr (inl a)) (inr (inl b)) = one_refusal name text made other a b
+  one_report name text made other (inr (inl a)) (inr (inr b)) = absurd (faultless text b.tokens a.code a.at b.cut b.whole a.fault)
+  one_report name text made other (inr (inr a)) (inl b) = absurd (built name text other made b a)
+  one_report name text made other (inr (inr a)) (inr (inl b)) = absurd (faultless text a.tokens b.code b.at a.cut a.whole b.fault)
+  one_report name text made other (inr (inr a)) (inr (inr b)) = one_unbuilt made other NotBuilt a.verdict_is b.verdict_is a.counted b.counted a.waived b.waived

@@ -14,7 +14,7 @@ use Rattle.station_cli.specs.OneReport.{OneReport, OneCourse}
 use Rattle.station_cli.specs.Run.{World, Course, misused, checked, too_long, unread, out_of_memory, Happens, verdict_status, status_of, max_file, after_fault, status_after, IsWork, IsWritten}
 use Rattle.station_cli.specs.Causes.{Ends, IsReportedAs, IsToldReported, IsAboveLimit, EndsRead}
 use Rattle.station_cli.specs.declared.status.Status.{Status}
-use Rattle.station_cli.specs.declared.status.Status.TheVariants.{Clean, Open, Refused, Usage, ReadFault, WriteFault, NoMemory, TooLong}
+use Rattle.station_cli.specs.declared.status.Status.TheVariants.{Clean, Open, NotAnalysed, Refused, Usage, ReadFault, WriteFault, NoMemory, TooLong}
 use Rattle.station_cli.proofs.Complete.{ends, ended_so, risen}
 
 same_name : (name other : List ℕ) → Some (check name) ≡ Some (check other) → name ≡ other
@@ -68,6 +68,7 @@ unsettled e = absurd cc
 abbrev is_of_verdict : Status → Bool
 is_of_verdict Clean = true
 is_of_verdict Open = true
+is_of_verdict NotAnalysed = true
 is_of_verdict Refused = true
 is_of_verdict other = false
 
@@ -81,6 +82,7 @@ after_none : (status : Status) → is_of_verdict (after_fault status) ≡ false
 after_none NoMemory = refl
 after_none Clean = refl
 after_none Open = refl
+after_none NotAnalysed = refl
 after_none Refused = refl
 after_none Usage = refl
 after_none ReadFault = refl
@@ -114,6 +116,7 @@ fault_is_short : (status : Status) → is_long (after_fault status) ≡ false
 fault_is_short NoMemory = refl
 fault_is_short Clean = refl
 fault_is_short Open = refl
+fault_is_short NotAnalysed = refl
 fault_is_short Refused = refl
 fault_is_short Usage = refl
 fault_is_short ReadFault = refl
@@ -124,6 +127,7 @@ verdict_is_short : (v : Verdict) → is_long (verdict_status v) ≡ false
 verdict_is_short verdict.Free = refl
 verdict_is_short (verdict.Alarms told) = refl
 verdict_is_short (verdict.Refused told) = refl
+verdict_is_short (verdict.NotAnalysed told) = refl
 
 long_kept : (status ended : Status) (answer : Result (Unit {0}) PutRefusal) → ended ≡ status_after status answer → ended ≡ TooLong → status ≡ TooLong
 long_kept status ended (Ok done) e v = sym e ∙ v

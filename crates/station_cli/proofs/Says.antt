@@ -26,10 +26,9 @@ use Rattle.finding_spans.specs.declared.report.Report.{Report}
 use Rattle.finding_spans.specs.declared.report.Verdict.{Verdict}
 use Rattle.finding_spans.specs.declared.report.Verdict.TheVariants as verdict
 use Rattle.report_text.specs.Text.{verdict_line, alarm_line, range_line, end_line, text_of}
-use Rattle.finding_spans.specs.declared.report.Refusal.{Refusal}
 use Rattle.station_cli.specs.Words.{Command, check, command_of}
 use Rattle.station_cli.specs.Report.{IsReport, IsAnalysed, IsFaultAt}
-use Rattle.station_cli.specs.Reports.{Fits}
+use Rattle.station_cli.specs.Reports.{Fits, IsOfAnalysis}
 use Rattle.station_cli.specs.Run.{World, Course, misused, checked, too_long, unread, out_of_memory, Happens, max_file, IsWork, IsWritten}
 use Rattle.station_cli.specs.Run.{verdict_status}
 use Rattle.station_cli.specs.Causes.{IsReportedAs}
@@ -39,6 +38,8 @@ use Rattle.station_cli.specs.declared.status.Status.{Status}
 use Rattle.station_cli.specs.declared.status.Status.TheVariants.{Clean, Open}
 use Rattle.iec_tables.specs.declared.fault.FaultCode.{FaultCode}
 use Rattle.st_lexer.specs.Laws.{OneCut, NotBoth}
+use Rattle.st_units.specs.Files.{IsFile}
+use Rattle.st_units.specs.FileLaws.{NoneOfBoth}
 use Rattle.station_cli.proofs.Runs.{foretold}
 
 -- ---- what was put
@@ -67,17 +68,19 @@ free_at : (v : Verdict) (alarms ranges ended : List ℕ) → get_or (verdict_lin
 free_at verdict.Free alarms ranges ended e = refl
 free_at (verdict.Alarms told) alarms ranges ended e = absurd (omega (arith, e))
 free_at (verdict.Refused told) alarms ranges ended e = absurd (omega (arith, e))
+free_at (verdict.NotAnalysed told) alarms ranges ended e = absurd (omega (arith, e))
 
-kept_at : (v : Verdict) (alarms ranges ended : List ℕ) (told : Refusal) → get_or (verdict_line v ++ alarms ++ ranges ++ ended) 8 0 ≡ 65 → v ≡ verdict.Refused told → ⊥
-kept_at verdict.Free alarms ranges ended told e is = omega (arith, e)
-kept_at (verdict.Alarms count) alarms ranges ended told e is = cc
-kept_at (verdict.Refused refused) alarms ranges ended told e is = omega (arith, e)
+kept_at : (v : Verdict) (alarms ranges ended : List ℕ) → get_or (verdict_line v ++ alarms ++ ranges ++ ended) 8 0 ≡ 65 → IsOfAnalysis v
+kept_at verdict.Free alarms ranges ended e = tt
+kept_at (verdict.Alarms count) alarms ranges ended e = tt
+kept_at (verdict.Refused refused) alarms ranges ended e = omega (arith, e)
+kept_at (verdict.NotAnalysed reason) alarms ranges ended e = omega (arith, e)
 
 report_free : (made : Report) → get_or (text_of made) 8 0 ≡ 70 → made.verdict ≡ verdict.Free
 report_free made e = free_at made.verdict (flat_map alarm_line made.alarms) (flat_map range_line made.ranges) (end_line made.open_count made.waived_count) e
 
-report_kept : (made : Report) (told : Refusal) → get_or (text_of made) 8 0 ≡ 65 → made.verdict ≡ verdict.Refused told → ⊥
-report_kept made told e is = kept_at made.verdict (flat_map alarm_line made.alarms) (flat_map range_line made.ranges) (end_line made.open_count made.waived_count) told e is
+report_kept : (made : Report) → get_or (text_of made) 8 0 ≡ 65 → IsOfAnalysis made.verdict
+report_kept made e = kept_at made.verdict (flat_map alarm_line made.alarms) (flat_map range_line made.ranges) (end_line made.open_count made.waived_count) e
 
 -- ---- a report that is no refusal
 
@@ -100,9 +103,10 @@ checked_of asked old new letter (too_long name) text low h is e = absurd (omega 
 checked_of asked old new letter (unread name) text low h is e = absurd (omega (arith, low, e, ap (λ (l : List ℕ). get_or l 8 0) is))
 checked_of asked old new letter out_of_memory text low h is e = absurd (omega (arith, low, e, ap (λ (l : List ℕ). get_or l 8 0) is))
 
-analysed_of : (name text : List ℕ) (made : Report) → IsReport name text made → ((told : Refusal) → made.verdict ≡ verdict.Refused told → ⊥) → IsAnalysed name text made
+analysed_of : (name text : List ℕ) (made : Report) → IsReport name text made → IsOfAnalysis made.verdict → IsAnalysed name text made
 analysed_of name text made (inl a) h = a
-analysed_of name text made (inr r) h = absurd (h _ r.verdict_is)
+analysed_of name text made (inr (inl r)) h = absurd (subst IsOfAnalysis r.verdict_is h)
+analysed_of name text made (inr (inr r)) h = absurd (subst IsOfAnalysis r.verdict_is h)
 
 -- ---- the program of the text is the one that was analysed
 
@@ -117,7 +121,7 @@ planned_of one_cut one_tree name text made a component p =
     subst (λ (u : SourceUnit). IsComponent u component) unit p.planned
 
 program_of : (name text : List ℕ) (made : Report) (a : IsAnalysed name text made) → IsProgram text a.report.component
-program_of name text made a = record { tokens = a.tokens; tree = a.tree; unit = a.report.unit; cut = a.cut; spelled = a.spelled; units = a.report.units; planned = a.report.planned }
+program_of name text made a = record { tokens = a.tokens; tree = a.tree; unit = a.report.unit; cut = a.cut; whole = a.whole; spelled = a.spelled; units = a.report.units; planned = a.report.planned }
 
 foretold_of : Theorem → OneCut → OneTree → (name text : List ℕ) (made : Report) → IsAnalysed name text made → (component : Component) → IsProgram text component → (moves : List Move) → IsForetold component made (run component moves (start component))
 foretold_of law one_cut one_tree name text made a component p moves = foretold law name text a.tree made a.report component (planned_of one_cut one_tree name text made a component p) moves
@@ -169,8 +173,8 @@ module _ (law : Theorem) (steady : Theorem_steady) (one_cut : OneCut) (one_tree 
     live = live_of steady c.content;
   }
 
-no_refusal : (v : Verdict) (told : Refusal) → v ≡ verdict.Free → v ≡ verdict.Refused told → ⊥
-no_refusal v told e f = let clash : verdict.Free ≡ verdict.Refused told = sym e ∙ f in cc
+of_free : (v : Verdict) → v ≡ verdict.Free → IsOfAnalysis v
+of_free v e = subst IsOfAnalysis (sym e) tt
 
 module _ (law : Theorem) (steady : Theorem_steady) (one_cut : OneCut) (one_tree : OneTree) (words : List (List ℕ)) {old new : World} {status ended : Status} {text : List ℕ} {old_out new_out : PortView}
     (work : IsWork (command_of words) old new status text) (put : IsWritten old_out new_out status text ended) where
@@ -179,33 +183,34 @@ module _ (law : Theorem) (steady : Theorem_steady) (one_cut : OneCut) (one_tree 
       let p : (n : ℕ) × (bytes ≡ take n text) = put_prefix old_out.sent new_out.sent before bytes text put.answer says.old_bytes says.new_bytes put.written.bytes_put in
       let c = checked_of (command_of words) old new 70 work.course text (omega arith) work.cause work.text_is (ninth text bytes (codes "VERDICT FREE") p.0 12 70 p.1 says.begins refl (lit< tt) refl) in
       let free = report_free c.made c.begins in
-      is_safe law steady one_cut one_tree words old bytes text p.0 p.1 c free (analysed_of c.name c.content c.made c.report (λ told is. no_refusal c.made.verdict told free is))
+      is_safe law steady one_cut one_tree words old bytes text p.0 p.1 c free (analysed_of c.name c.content c.made c.report (of_free c.made.verdict free))
 
   pub alarms_say : AlarmsCover words old old_out new_out
   alarms_say before bytes says =
       let p : (n : ℕ) × (bytes ≡ take n text) = put_prefix old_out.sent new_out.sent before bytes text put.answer says.old_bytes says.new_bytes put.written.bytes_put in
       let c = checked_of (command_of words) old new 65 work.course text (omega arith) work.cause work.text_is (ninth text bytes (codes "VERDICT ALARMS") p.0 14 65 p.1 says.begins refl (lit< tt) refl) in
-      is_covered law steady one_cut one_tree words old bytes text p.0 p.1 c (analysed_of c.name c.content c.made c.report (λ told is. report_kept c.made told c.begins is))
+      is_covered law steady one_cut one_tree words old bytes text p.0 p.1 c (analysed_of c.name c.content c.made c.report (report_kept c.made c.begins))
 
 -- ---- what the definitions say alone
 
 -- a text that spells a program is not refused
-module _ (law : Theorem) (steady : Theorem_steady) (one_cut : OneCut) (not_both : NotBoth) (one_tree : OneTree) where
+module _ (law : Theorem) (steady : Theorem_steady) (one_cut : OneCut) (not_both : NotBoth) (one_tree : OneTree) (none_of_both : NoneOfBoth) where
   unrefused : (text : List ℕ) (component : Component) (code : FaultCode) (at : ℕ) → IsProgram text component → IsFaultAt text code at → ⊥
   unrefused text component code at p (inl fault) = not_both text p.tokens code at p.cut fault
-  unrefused text component code at p (inr (is, tokens, cut, refused)) =
-      refused.unspelled p.tree (subst (λ (ts : List Token). IsTree text ts p.tree) (one_cut text p.tokens tokens p.cut cut) p.spelled)
+  unrefused text component code at p (inr (tokens, cut, refused)) =
+      none_of_both text tokens p.whole.0 code at (subst (λ (ts : List Token). IsFile text ts p.whole.0) (one_cut text p.tokens tokens p.cut cut) p.whole.1) refused
 
   analysed_program : (name text : List ℕ) (made : Report) (component : Component) → IsProgram text component → IsReport name text made → IsAnalysed name text made
   analysed_program name text made component p (inl a) = a
-  analysed_program name text made component p (inr r) = absurd (unrefused text component r.code r.at p r.fault)
+  analysed_program name text made component p (inr (inl r)) = absurd (unrefused text component r.code r.at p r.fault)
+  analysed_program name text made component p (inr (inr r)) = absurd (r.other p.tree (subst (λ (ts : List Token). IsTree text ts p.tree) (one_cut text p.tokens r.tokens p.cut r.cut) p.spelled))
 
   pub reports_hold : ReportsHold
   reports_hold name text made h component p moves = foretold_of law one_cut one_tree name text made (analysed_program name text made component p h) component p moves
 
   pub free_holds : FreeHolds
   free_holds name text made h free =
-      let a = analysed_of name text made h (λ told is. no_refusal made.verdict told free is) in (
+      let a = analysed_of name text made h (of_free made.verdict free) in (
         (λ component p moves. faultless_by component made (run component moves (start component)) (free_alarms made.verdict _ _ free a.report.counted.verdict) (reports_hold name text made h component p moves)),
         live_of steady text,
       )
@@ -214,6 +219,7 @@ module _ (law : Theorem) (steady : Theorem_steady) (one_cut : OneCut) (not_both 
   free_status verdict.Free e = refl
   free_status (verdict.Alarms told) e = cc
   free_status (verdict.Refused told) e = cc
+  free_status (verdict.NotAnalysed told) e = cc
 
   pub reported_safe : (words : List (List ℕ)) (old : World) → IsReportedAs words old Clean → IsReportedSafe words old
   reported_safe words old r =

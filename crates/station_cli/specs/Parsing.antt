@@ -7,12 +7,12 @@ use Rattle.first_form.specs.FirstForm.{IsTree}
 use Rattle.st_tree.specs.declared.node.Node.{Node}
 use Rattle.first_form.specs.declared.tree.Unit.{Unit as SourceUnit}
 use Rattle.first_form.specs.declared.tree.SourceTree.{SourceTree}
-use Rattle.first_form.specs.Feeds.{feeds_from}
+use Rattle.st_tree.specs.Feeds.{feeds_from}
 use Rattle.first_form.specs.Names.{UsesDeclared}
 use Rattle.first_form.specs.Nodes.{IsNumbered, nodes_of}
-use Rattle.station_cli.specs.Report.{IsFaultAt}
+use Rattle.station_cli.specs.Report.{IsFaultAt, IsWhole}
 use Rattle.station_cli.specs.declared.report.Parsed.{Parsed}
-use Rattle.station_cli.specs.declared.report.Parsed.TheVariants.{Tree, Fault}
+use Rattle.station_cli.specs.declared.report.Parsed.TheVariants.{Tree, Fault, Other}
 
 -- What the parser promises of a tree of a text, so that it can be analysed.
 pub record IsAnalysable (text : List ℕ) (tree : SourceTree) : Type 0 where
@@ -24,7 +24,8 @@ pub record IsAnalysable (text : List ℕ) (tree : SourceTree) : Type 0 where
   pub within : (node : Node) → Contains (nodes_of tree) node → node.start ≤ length text
   pub short : length text ≤ 1048576
 
--- What a text is parsed to: the tree that its tokens spell, or its first fault.
+-- What a text is parsed to: the tree of the first form that its tokens spell, its first fault, or that its tokens spell a file of another form.
 abbrev pub IsParsed : List ℕ → Parsed → Type 0
-IsParsed text (Tree tree) = (tokens : List Token) × IsCut text tokens × IsTree text tokens tree × IsAnalysable text tree
+IsParsed text (Tree tree) = (tokens : List Token) × IsCut text tokens × IsWhole text tokens × IsTree text tokens tree × IsAnalysable text tree
 IsParsed text (Fault fault) = IsFaultAt text fault.code fault.at × (fault.at ≤ length text)
+IsParsed text Other = (tokens : List Token) × IsCut text tokens × IsWhole text tokens × ((tree : SourceTree) → IsTree text tokens tree → ⊥)

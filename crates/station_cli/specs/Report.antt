@@ -7,7 +7,9 @@ use Rattle.interval_domain.specs.Interval.{Interval, Span, IsWithin}
 use Rattle.interval_domain.specs.Grid.{IsGrid}
 use Rattle.st_tree.specs.declared.node.Site.{Site}
 use Rattle.iec_tables.specs.declared.fault.FaultCode.{FaultCode}
-use Rattle.iec_tables.specs.declared.fault.FaultCode.TheVariants.{NotBuilt}
+use Rattle.st_tree.specs.declared.file.FilePart.{FilePart}
+use Rattle.st_tree.specs.declared.plan.PlanRefusal.TheVariants.{NotBuilt}
+use Rattle.st_units.specs.Files.{IsFile, IsFileFault}
 use Rattle.first_form.specs.declared.tree.Stmt.{Stmt}
 use Rattle.first_form.specs.declared.tree.Stmt.TheVariants.{Assign}
 use Rattle.first_form.specs.declared.tree.Unit.{Unit as SourceUnit}
@@ -17,18 +19,17 @@ use Rattle.st_tree.specs.declared.code.Component.{Component}
 use Rattle.first_form.specs.Nodes.{stmt_nodes}
 use Rattle.token_grammar.specs.declared.token.Token.{Token}
 use Rattle.st_lexer.specs.Cut.{IsCut, IsFault}
-use Rattle.first_form.specs.FirstForm.{IsTree, IsRefused}
+use Rattle.first_form.specs.FirstForm.{IsTree}
 use Rattle.task_config.specs.Plan.{IsComponent}
 use Rattle.cycle_analysis.specs.Pass.{Entry as Told, Alarm as Alarmed}
 use Rattle.cycle_analysis.specs.Table.{Part, part_at, pass_of, own_range, IsSolution}
 use Rattle.finding_spans.specs.Places.{IsPosition, IsReportedAt}
 use Rattle.finding_spans.specs.declared.report.Alarm.{Alarm}
-use Rattle.finding_spans.specs.declared.report.Refusal.{Refusal}
 use Rattle.finding_spans.specs.declared.report.Entry.{Entry}
 use Rattle.finding_spans.specs.declared.report.RangeLine.{RangeLine}
 use Rattle.finding_spans.specs.declared.report.Report.{Report}
 use Rattle.finding_spans.specs.declared.report.Verdict.TheVariants as verdict
-use Rattle.station_cli.specs.Reports.{IsCounted}
+use Rattle.station_cli.specs.Reports.{IsCounted, IsOfAnalysis}
 
 -- ---- alarms
 
@@ -102,21 +103,26 @@ pub record IsReportOf (name text : List ℕ) (tree : SourceTree) (report : Repor
   pub solved : IsSolution grid component table
   pub alarms : AreAlarms name text tree unit (pass_of task table 0).log report.alarms
   pub ranges : AreRanges task table report.ranges
-  pub no_refusal : (refusal : Refusal) → report.verdict ≡ verdict.Refused refusal → ⊥
+  pub analysed : IsOfAnalysis report.verdict
   pub counted : IsCounted report
   pub waived : report.waived_count ≡ 0
 
--- The report on a text that is analysed.
+-- The tokens spell a file.
+abbrev pub IsWhole : List ℕ → List Token → Type 0
+IsWhole text tokens = (parts : List FilePart) × IsFile text tokens parts
+
+-- The report on a text that is analysed: its tokens spell a file, and one of the form whose analysis is built.
 pub record IsAnalysed (name text : List ℕ) (made : Report) : Type 0 where
   pub tokens : List Token
   pub tree : SourceTree
   pub cut : IsCut text tokens
+  pub whole : IsWhole text tokens
   pub spelled : IsTree text tokens tree
   pub report : IsReportOf name text tree made
 
--- The first fault of a text, with its place in bytes: that for which it isn't cut into tokens, or that its tokens spell no tree.
+-- The first fault of a text, with its place in bytes: that for which it isn't cut into tokens, or that for which its tokens spell no file.
 abbrev pub IsFaultAt : List ℕ → FaultCode → ℕ → Type 0
-IsFaultAt text code at = IsFault text code at ⊎ ((code ≡ NotBuilt) × (tokens : List Token) × IsCut text tokens × IsRefused text tokens at)
+IsFaultAt text code at = IsFault text code at ⊎ ((tokens : List Token) × IsCut text tokens × IsFileFault text tokens code at)
 
 -- The report on a text that is refused.
 pub record IsRefusal (name text : List ℕ) (report : Report) : Type 0 where
@@ -130,6 +136,16 @@ pub record IsRefusal (name text : List ℕ) (report : Report) : Type 0 where
   pub counted : IsCounted report
   pub waived : report.waived_count ≡ 0
 
+-- The report on a text that isn't analysed: its tokens spell a file, but none of the form whose analysis is built.
+pub record IsUnbuilt (text : List ℕ) (report : Report) : Type 0 where
+  pub tokens : List Token
+  pub cut : IsCut text tokens
+  pub whole : IsWhole text tokens
+  pub other : (tree : SourceTree) → IsTree text tokens tree → ⊥
+  pub verdict_is : report.verdict ≡ verdict.NotAnalysed NotBuilt
+  pub counted : IsCounted report
+  pub waived : report.waived_count ≡ 0
+
 -- The report on a file of that name and text.
 abbrev pub IsReport : List ℕ → List ℕ → Report → Type 0
-IsReport name text report = IsAnalysed name text report ⊎ IsRefusal name text report
+IsReport name text report = IsAnalysed name text report ⊎ (IsRefusal name text report ⊎ IsUnbuilt text report)

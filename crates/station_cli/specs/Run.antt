@@ -13,7 +13,7 @@ use Rattle.report_text.specs.Text as report
 use Rattle.station_cli.specs.Words.{Command, check, command_of}
 use Rattle.station_cli.specs.Report.{IsReport}
 use Rattle.station_cli.specs.declared.status.Status.{Status}
-use Rattle.station_cli.specs.declared.status.Status.TheVariants.{Clean, Open, Refused, Usage, ReadFault, WriteFault, NoMemory, TooLong}
+use Rattle.station_cli.specs.declared.status.Status.TheVariants.{Clean, Open, NotAnalysed, Refused, Usage, ReadFault, WriteFault, NoMemory, TooLong}
 
 -- what contracts see of the outside that the work reads and changes; the output stands apart
 pub record World : Type 0 where
@@ -74,6 +74,7 @@ abbrev pub verdict_status : Verdict → Status
 verdict_status verdict.Free = Clean
 verdict_status (verdict.Alarms alarms) = Open
 verdict_status (verdict.Refused refusal) = Refused
+verdict_status (verdict.NotAnalysed reason) = NotAnalysed
 
 -- the status of each course, where its line is written
 abbrev pub status_of : Course → Status

@@ -9,6 +9,7 @@ pub fn one_report()
 {
     st_lexer::cut_laws();
     first_form::tree_laws();
+    st_units::file_laws();
 }
 
 /// The report that is defined for a text holds of each run of the program that the text spells; where it is FREE, no run faults and no
@@ -19,6 +20,7 @@ pub fn reports_hold()
 {
     st_lexer::cut_laws();
     first_form::tree_laws();
+    st_units::file_laws();
     cycle_analysis::headline();
 }
 

@@ -3,6 +3,12 @@
 
 ghost use Rattle.std.specs.Prelude.{◌≡◌};
 
+#[cfg(test)]
+mod cut_tests;
+#[cfg(test)]
+mod depth_tests;
+#[cfg(test)]
+mod grammar_tests;
 pub mod law;
 mod report;
 pub mod run;
@@ -11,6 +17,8 @@ pub mod status;
 mod tests;
 #[cfg(test)]
 mod token_tests;
+#[cfg(test)]
+mod tree_tests;
 pub mod words;
 
 use station_ports::os::{OsFiles, OsOut};

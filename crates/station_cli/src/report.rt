@@ -4,9 +4,11 @@ ghost use Rattle.std.specs.Prelude.{◌≡◌, ℕ, List, ◌++◌, ◌≤◌, I
 ghost use Rattle.std.specs.List.{AllByRecursion, Contains};
 ghost use Rattle.first_form.specs.Nodes.{IsNumbered};
 ghost use Rattle.first_form.specs.declared.tree.Unit.{Unit as SourceUnit};
-ghost use Rattle.finding_spans.specs.declared.report.Refusal.{Refusal as Reason};
-ghost use Rattle.station_cli.specs.Reports.{IsCounted};
-ghost use Rattle.station_cli.specs.Report.{IsReport, IsRefusal, IsReportOf, IsFaultAt, IsUnder, subject};
+ghost use Rattle.station_cli.specs.Reports.{IsCounted, IsOfAnalysis};
+ghost use Rattle.station_cli.specs.Report.{IsReport, IsRefusal, IsReportOf, IsWhole, IsFaultAt, IsUnder, subject};
+ghost use Rattle.st_tree.specs.declared.plan.PlanRefusal.TheVariants as Reason;
+ghost use Rattle.token_grammar.specs.declared.token.Token.{Token};
+ghost use Rattle.st_lexer.specs.Cut.{IsCut};
 ghost use Rattle.station_cli.specs.Parsing.{IsAnalysable, IsParsed};
 ghost use Rattle.station_cli.specs.Lines.{AreEntriesOf, IsAlarmOf, IsEntryOf, IsInBody, lines_of, range_line};
 
@@ -20,7 +22,8 @@ use interval_domain::grid::Grid;
 use interval_domain::interval::Interval;
 use sqlite_items::Items;
 use st_lexer::{LexFault, cut_laws, tokens};
-use st_tree::{CellInfo, Component, Hit, NodeNo};
+use st_tree::{CellInfo, Component, Hit, NodeNo, PlanRefusal};
+use st_units::{ParseFault as FileFault, file_laws, parse_parts};
 use station_ports::outside::NoMemory;
 use station_ports::steps::Steps;
 use station_ports::texts::{FileText, Name};
@@ -40,14 +43,18 @@ pub(crate) fn report_on<L: Ledger>(
     match tree_of(alloc, text, steps)? {
         Parsed::Tree(tree) => analysed(alloc, name, &tree, steps),
         Parsed::Fault(fault) => Ok(refused(alloc, name, text, fault)?),
+        Parsed::Other => Ok(not_built(alloc)),
     }
 }
 
 /// What a text is parsed to.
 #[derive(Drop)]
 enum Parsed {
+    /// The tree of the form whose analysis is built.
     Tree(SourceTree),
     Fault(Fault),
+    /// A file of another form.
+    Other,
 }
 
 /// A fault and its place in bytes.
@@ -66,16 +73,45 @@ fn tree_of<L: Ledger>(
     ensures { IfOk result (IsParsed text.now) }
 {
     cut_laws();
+    file_laws();
+    match parse_parts(alloc, text.bytes(), steps) {
+        Ok(_) => first_tree(alloc, text),
+        Err(FileFault::At { code, at }) => Ok(Parsed::Fault(Fault { code, at })),
+        Err(FileFault::Lex(LexFault::At { code, at })) => Ok(Parsed::Fault(Fault { code, at })),
+        Err(FileFault::Lex(LexFault::NoMemory) | FileFault::NoMemory) => Err(NoMemory),
+    }
+}
+
+/// The tree of the form whose analysis is built, of a text that is a file.
+fn first_tree(alloc: Global, text: &FileText) -> Result<Parsed, NoMemory>
+    ensures { IfOk result (λ parsed. (tokens : List Token) → IsCut text.now tokens → IsWhole text.now tokens → IsParsed text.now parsed) }
+{
+    cut_laws();
     tree_laws();
     let tokens = match tokens(alloc, text.bytes()) {
         Ok(tokens) => tokens,
-        Err(LexFault::At { code, at }) => return Ok(Parsed::Fault(Fault { code, at })),
+        Err(LexFault::At { .. }) => return Ok(Parsed::Other),
         Err(LexFault::NoMemory) => return Err(NoMemory),
     };
-    match first_form(alloc, tokens, steps) {
+    match first_form(alloc, tokens) {
         Ok(tree) => Ok(Parsed::Tree(tree)),
-        Err(ParseFault::At { code, at }) => Ok(Parsed::Fault(Fault { code, at })),
+        Err(ParseFault::At { .. }) => Ok(Parsed::Other),
         Err(ParseFault::NoMemory) => Err(NoMemory),
+    }
+}
+
+/// The report on a file whose analysis isn't built.
+fn not_built(alloc: Global) -> Report
+    ensures verdict { result.verdict ≡ Verdict.NotAnalysed Reason.NotBuilt }
+    ensures counted { IsCounted result }
+    ensures waived { result.waived_count ≡ 0 }
+{
+    Report {
+        verdict: Verdict::NotAnalysed(PlanRefusal::NotBuilt),
+        alarms: Items::new(alloc),
+        ranges: Items::new(alloc),
+        open_count: 0,
+        waived_count: 0,
     }
 }
 
@@ -122,7 +158,7 @@ fn report_of(alarms: Items<Entry<Alarm>>, ranges: Items<RangeLine>) -> Report
     ensures alarms { result.alarms ≡ alarms }
     ensures ranges { result.ranges ≡ ranges }
     ensures counted { IsCounted result }
-    ensures no_refusal { (refusal : Reason) → result.verdict ≡ Verdict.Refused refusal → ⊥ }
+    ensures analysed { IsOfAnalysis result.verdict }
     ensures waived { result.waived_count ≡ 0 }
 {
     let count = alarms.len() as u64;

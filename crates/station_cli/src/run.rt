@@ -16,6 +16,7 @@ use finding_spans::Verdict;
 use first_form::tree_laws;
 use report_text::text;
 use st_lexer::cut_laws;
+use st_units::file_laws;
 use station_ports::outside::{FileRefusal, Files, NoMemory, Port, PutRefusal, Sink};
 use station_ports::steps::Steps;
 use station_ports::sure::{SureFiles, SureSink};
@@ -56,6 +57,7 @@ pub fn run<F: Files, S: Sink, L: Ledger>(
     ensures clean { result ≡ Status.Clean → IsReportedSafe (map string_bytes words.now) (record { files = F.view files.old }) }
     ensures open { result ≡ Status.Open → IsReportedCovered (map string_bytes words.now) (record { files = F.view files.old }) }
     ensures refused { result ≡ Status.Refused → IsReportedAs (map string_bytes words.now) (record { files = F.view files.old }) Status.Refused }
+    ensures not_analysed { result ≡ Status.NotAnalysed → IsReportedAs (map string_bytes words.now) (record { files = F.view files.old }) Status.NotAnalysed }
     ensures reported { (status : Status) → IsToldReported (map string_bytes words.now) (record { files = F.view files.old }) status →
         EndsRead (record { files = F.view files.old }) (record { files = F.view files.new }) (S.view out.old) (S.view out.new) status result }
     ensures usage { result ≡ Status.Usage → command_of (map string_bytes words.now) ≡ None }
@@ -68,6 +70,7 @@ pub fn run<F: Files, S: Sink, L: Ledger>(
 {
     cut_laws();
     tree_laws();
+    file_laws();
     headline();
     one_report();
     match work(alloc, words, files, steps) {
@@ -163,6 +166,7 @@ fn status_of_verdict(verdict: &Verdict) -> Status
         Verdict::Free => Status::Clean,
         Verdict::Alarms(_) => Status::Open,
         Verdict::Refused(_) => Status::Refused,
+        Verdict::NotAnalysed(_) => Status::NotAnalysed,
     }
 }
 

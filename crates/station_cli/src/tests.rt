@@ -14,14 +14,14 @@ use std::marker::Brand;
 use std::sync::ledger::{Blank, Ledger};
 use std::test::Fail;
 
-const CHECK: [&str; 2] = ["check", "a.st"];
+pub(crate) const CHECK: [&str; 2] = ["check", "a.st"];
 
 /// What a call over memory gave.
 #[derive(Debug, Drop)]
-struct Outcome {
-    status: Status,
-    output: Vec<u8>,
-    parsed: u64,
+pub(crate) struct Outcome {
+    pub(crate) status: Status,
+    pub(crate) output: Vec<u8>,
+    pub(crate) parsed: u64,
     solved: u64,
 }
 
@@ -73,7 +73,7 @@ fn over<L: Ledger>(
     })
 }
 
-fn result_over(
+pub(crate) fn result_over(
     rt: &HostRuntime,
     words: &[&str],
     content: &[u8],
@@ -208,62 +208,48 @@ const ANALYSED: [Row; 15] = [
     },
 ];
 
-/// Texts that stop being of the first form, and where.
-const REFUSED: [(&str, &str, &str); 45] = [
+/// Files of forms that aren't analysed yet.
+const NOT_ANALYSED: [&str; 24] = [
+    "",
+    "(* x *) // y",
+    "PROGRAM P\nVAR n : INT; END_VAR\nIF n < 100 THEN n := n + 1; END_IF;\nEND_PROGRAM\n",
+    "PROGRAM P END_PROGRAM PROGRAM Q END_PROGRAM",
+    // A name that is declared again, also in another case.
+    "PROGRAM P VAR n, N : INT; END_VAR END_PROGRAM",
+    "PROGRAM P VAR n : INT; m, n : INT; END_VAR END_PROGRAM",
+    "PROGRAM P VAR n : SINT; END_VAR END_PROGRAM",
+    "PROGRAM P VAR n : INT; END_VAR VAR m : INT; END_VAR END_PROGRAM",
+    // A name that isn't declared.
+    "PROGRAM P VAR n : INT; END_VAR\nm := 1; END_PROGRAM",
+    "PROGRAM P VAR n : INT; END_VAR\nn := m; END_PROGRAM",
+    // Numbers above 32767, and those that aren't plain digits.
+    "PROGRAM P VAR n : INT; END_VAR\nn := 32768; END_PROGRAM",
+    "PROGRAM P VAR n : INT; END_VAR\nn := -32768; END_PROGRAM",
+    "PROGRAM P VAR n : INT; END_VAR\nn := 1_000; END_PROGRAM",
+    "PROGRAM P VAR a : INT; END_VAR a := 16#F; END_PROGRAM",
+    "PROGRAM P VAR a : INT; END_VAR a := INT#1; END_PROGRAM",
+    "PROGRAM P VAR a : INT; END_VAR a := (1); END_PROGRAM",
+    "PROGRAM P VAR a : INT; END_VAR a := -a; END_PROGRAM",
+    "PROGRAM P VAR a : INT; END_VAR a := a * 2; END_PROGRAM",
+    "PROGRAM P VAR a : INT := 1; END_VAR END_PROGRAM",
+    "PROGRAM P VAR CONSTANT END_VAR END_PROGRAM",
+    // Empty statements.
+    "PROGRAM P; END_PROGRAM",
+    "PROGRAM P (* x *) ; END_PROGRAM",
+    "PROGRAM P VAR a : INT; END_VAR a := 1;; END_PROGRAM",
+    "FUNCTION F : INT END_FUNCTION",
+];
+
+/// Texts that are refused, and where.
+const REFUSED: [(&str, &str, &str); 33] = [
     ("(* a (* b *)", "1:1", "3 OpenComment"),
-    ("", "1:1", "8 NotBuilt"),
-    (
-        "PROGRAM P\nVAR n : INT; END_VAR\nIF n < 100 THEN n := n + 1; END_IF;\nEND_PROGRAM\n",
-        "3:1",
-        "8 NotBuilt",
-    ),
-    ("PROGRAM IF END_PROGRAM", "1:9", "8 NotBuilt"),
-    ("PROGRAM P", "1:10", "8 NotBuilt"),
-    ("PROGRAM P END_PROGRAM PROGRAM", "1:23", "8 NotBuilt"),
-    (
-        "PROGRAM P VAR n, N : INT; END_VAR END_PROGRAM",
-        "1:18",
-        "8 NotBuilt",
-    ),
-    (
-        "PROGRAM P VAR n : INT; m, n : INT; END_VAR END_PROGRAM",
-        "1:27",
-        "8 NotBuilt",
-    ),
-    (
-        "PROGRAM P VAR n : SINT; END_VAR END_PROGRAM",
-        "1:19",
-        "8 NotBuilt",
-    ),
+    ("PROGRAM IF END_PROGRAM", "1:9", "6 Grammar"),
+    ("PROGRAM P", "1:10", "6 Grammar"),
+    ("PROGRAM P END_PROGRAM PROGRAM", "1:30", "6 Grammar"),
     (
         "PROGRAM P VAR n : INT END_VAR END_PROGRAM",
         "1:23",
-        "8 NotBuilt",
-    ),
-    (
-        "PROGRAM P VAR n : INT; END_VAR VAR m : INT; END_VAR END_PROGRAM",
-        "1:32",
-        "8 NotBuilt",
-    ),
-    (
-        "PROGRAM P VAR n : INT; END_VAR\nm := 1; END_PROGRAM",
-        "2:1",
-        "8 NotBuilt",
-    ),
-    (
-        "PROGRAM P VAR n : INT; END_VAR\nn := m; END_PROGRAM",
-        "2:6",
-        "8 NotBuilt",
-    ),
-    (
-        "PROGRAM P VAR n : INT; END_VAR\nn := 32768; END_PROGRAM",
-        "2:6",
-        "8 NotBuilt",
-    ),
-    (
-        "PROGRAM P VAR n : INT; END_VAR\nn := -32768; END_PROGRAM",
-        "2:7",
-        "8 NotBuilt",
+        "6 Grammar",
     ),
     (
         "PROGRAM P VAR n : INT; END_VAR\nn := 5a; END_PROGRAM",
@@ -272,28 +258,23 @@ const REFUSED: [(&str, &str, &str); 45] = [
     ),
     (
         "PROGRAM P VAR n : INT; END_VAR\nn := 5.; END_PROGRAM",
-        "2:6",
-        "8 NotBuilt",
-    ),
-    (
-        "PROGRAM P VAR n : INT; END_VAR\nn := 1_000; END_PROGRAM",
-        "2:6",
-        "8 NotBuilt",
+        "2:7",
+        "6 Grammar",
     ),
     (
         "PROGRAM P VAR n : INT; END_VAR\nn := - - 5; END_PROGRAM",
         "2:8",
-        "8 NotBuilt",
+        "6 Grammar",
     ),
     (
         "PROGRAM P VAR n : INT; END_VAR\nn := n + ; END_PROGRAM",
         "2:10",
-        "8 NotBuilt",
+        "6 Grammar",
     ),
     (
         "PROGRAM P VAR n : INT; END_VAR\nn := 1 n; END_PROGRAM",
         "2:8",
-        "8 NotBuilt",
+        "6 Grammar",
     ),
     (
         "PROGRAM P VAR a__b : INT; END_VAR END_PROGRAM",
@@ -307,60 +288,41 @@ const REFUSED: [(&str, &str, &str); 45] = [
     ),
     ("PROGRAM _ END_PROGRAM", "1:9", "5 BadName"),
     ("PROGRAM a_ END_PROGRAM", "1:9", "5 BadName"),
-    ("PROGRAM P; END_PROGRAM", "1:10", "8 NotBuilt"),
     (
         "PROGRAM P a := 1; VAR a : INT; END_VAR END_PROGRAM",
-        "1:11",
-        "8 NotBuilt",
+        "1:19",
+        "6 Grammar",
     ),
     (
         "PROGRAM P VAR a, : INT; END_VAR END_PROGRAM",
         "1:18",
-        "8 NotBuilt",
+        "6 Grammar",
     ),
     (
         "PROGRAM P VAR : INT; END_VAR END_PROGRAM",
         "1:15",
-        "8 NotBuilt",
+        "6 Grammar",
     ),
     (
         "PROGRAM P VAR a : INT; END_VAR a = 1; END_PROGRAM",
         "1:34",
-        "8 NotBuilt",
-    ),
-    (
-        "PROGRAM P VAR a : INT; END_VAR a := (1); END_PROGRAM",
-        "1:37",
-        "8 NotBuilt",
-    ),
-    (
-        "PROGRAM P VAR a : INT; END_VAR a := -a; END_PROGRAM",
-        "1:38",
-        "8 NotBuilt",
-    ),
-    (
-        "PROGRAM P VAR a : INT; END_VAR a := 16#F; END_PROGRAM",
-        "1:37",
-        "8 NotBuilt",
+        "6 Grammar",
     ),
     (
         "PROGRAM P VAR a : INT; END_VAR a := 1;",
         "1:39",
-        "8 NotBuilt",
+        "6 Grammar",
     ),
-    ("PROGRAM P END_PROGRAM;", "1:22", "8 NotBuilt"),
-    ("PROGRAM P (* x *) ; END_PROGRAM", "1:19", "8 NotBuilt"),
-    ("(* x *) {y} // z\nEND_PROGRAM", "2:1", "8 NotBuilt"),
+    ("PROGRAM P END_PROGRAM;", "1:22", "6 Grammar"),
+    ("(* x *) {y} // z\nEND_PROGRAM", "2:1", "6 Grammar"),
     (
         "PROGRAM P VAR a : INT; END_VAR a := 3#1; END_PROGRAM",
-        "1:37",
-        "8 NotBuilt",
+        "1:38",
+        "6 Grammar",
     ),
-    (
-        "PROGRAM P VAR a : INT; END_VAR a := INT#1; END_PROGRAM",
-        "1:37",
-        "8 NotBuilt",
-    ),
+    // A token that isn't well formed comes before what the grammar refuses, wherever it stands.
+    ("END_PROGRAM x__y", "1:13", "5 BadName"),
+    ("PROGRAM PROGRAM ~", "1:17", "2 BadByte"),
     ("x__y", "1:1", "5 BadName"),
     (" T#1d2d", "1:2", "4 BadNumber"),
     ("16#G", "1:1", "4 BadNumber"),
@@ -371,6 +333,14 @@ const REFUSED: [(&str, &str, &str); 45] = [
         "3:3",
         "3 OpenComment",
     ),
+    // Forms of a body that aren't built.
+    (
+        "PROGRAM P INITIAL_STEP s : END_STEP END_PROGRAM",
+        "1:11",
+        "6 Grammar",
+    ),
+    ("PROGRAM P ACTION a : END_ACTION", "1:11", "6 Grammar"),
+    ("PROGRAM P ; STEP s : END_STEP", "1:13", "6 Grammar"),
 ];
 
 #[test]
@@ -383,6 +353,20 @@ fn analysed_texts(rt: HostRuntime) -> Result<(), Fail> {
             row.output.as_bytes(),
             "{}",
             row.text
+        );
+    }
+    Ok(())
+}
+
+#[test]
+fn not_analysed_texts(rt: HostRuntime) -> Result<(), Fail> {
+    for text in &NOT_ANALYSED {
+        let found = result_over(&rt, &CHECK, text.as_bytes(), &[], &[])?;
+        assert_eq!(rt; found.status, Status::NotAnalysed, "{text}");
+        assert_eq!(rt;
+            found.output.as_slice(),
+            b"VERDICT NOT ANALYSED NotBuilt\nEND open 0 waived 0\n".as_slice(),
+            "{text}"
         );
     }
     Ok(())
@@ -448,10 +432,10 @@ fn limits(rt: HostRuntime) -> Result<(), Fail> {
     );
     let longest = vec![in rt.alloc(); b' '; 1_048_576]?;
     let within = result_over(&rt, &CHECK, &longest, &[], &[])?;
-    assert_eq!(rt; within.status, Status::Refused);
+    assert_eq!(rt; within.status, Status::NotAnalysed);
     assert_eq!(rt;
         within.output.as_slice(),
-        b"VERDICT REFUSED a.st:1:1048577 8 NotBuilt\nEND open 0 waived 0\n".as_slice()
+        b"VERDICT NOT ANALYSED NotBuilt\nEND open 0 waived 0\n".as_slice()
     );
     Ok(())
 }
@@ -499,10 +483,10 @@ fn failing_calls(rt: HostRuntime) -> Result<(), Fail> {
 #[test]
 fn over_sure_forms(rt: HostRuntime) -> Result<(), Fail> {
     let found = sure_result(&rt)?;
-    assert_eq!(rt; found.status, Status::Refused);
+    assert_eq!(rt; found.status, Status::NotAnalysed);
     assert_eq!(rt;
         found.output.as_slice(),
-        b"VERDICT REFUSED a.st:1:1 8 NotBuilt\nEND open 0 waived 0\n".as_slice()
+        b"VERDICT NOT ANALYSED NotBuilt\nEND open 0 waived 0\n".as_slice()
     );
     assert_eq!(rt; found.parsed, 0);
     Ok(())

@@ -7,7 +7,7 @@ use Rattle.token_grammar.specs.Input.{Input, view}
 use Rattle.first_form.proofs.laws.Laws.{input}
 use Rattle.first_form.specs.Bare.{bare_unit}
 use Rattle.first_form.specs.Nodes.{CountsFrom, unit_nodes}
-use Rattle.first_form.specs.FirstForm.{words_of, place_at}
+use Rattle.token_grammar.specs.Kept.{words_of, place_at}
 use Rattle.first_form.specs.Parse as p
 use Rattle.first_form.proofs.Found.{all_spelled, left_over, refused}
 use Rattle.first_form.proofs.file.only_program.Goals as goal

@@ -1,5 +1,5 @@
 use Rattle.std.proofs.Common.{sym, ◌∙◌}
-use Rattle.first_form.specs.FirstForm.{words_of}
+use Rattle.token_grammar.specs.Kept.{words_of}
 use Rattle.first_form.specs.Bare.{bare_unit}
 use Rattle.first_form.proofs.Found.{one_spelled}
 use Rattle.first_form.proofs.OneTree.{same_tree}

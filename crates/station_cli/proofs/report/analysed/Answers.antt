@@ -21,6 +21,6 @@ returns g c = λ text is.
       alarms = c.report_of.ensures.alarms;
       ranges = c.report_of.ensures.ranges;
       counted = c.report_of.ensures.counted;
-      no_refusal = c.report_of.ensures.no_refusal;
+      analysed = c.report_of.ensures.analysed;
       waived = c.report_of.ensures.waived;
     })

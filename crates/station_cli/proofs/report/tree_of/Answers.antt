@@ -1,41 +1,50 @@
-use Rattle.std.proofs.Common.{◌≡◌, ℕ, ◌≤◌, List, length, inl, inr, sym, subst, ◌∙◌}
+use Rattle.std.proofs.Common.{◌≡◌, ℕ, ◌≤◌, List, length, Result, Ok, Err, IfOk, inl, inr, sym, subst, ◌∙◌}
 use Rattle.iec_tables.specs.declared.fault.FaultCode.{FaultCode}
+use Rattle.token_grammar.specs.declared.token.Token.{Token}
 use Rattle.st_lexer.specs.Cut.{IsCut, IsFault}
-use Rattle.st_lexer.specs.Answers as lexer
-use Rattle.first_form.specs.FirstForm.{IsTree, IsRefused}
-use Rattle.first_form.specs.Answers.{Refuses}
-use Rattle.first_form.specs.declared.file.ParseFault.TheVariants.{At}
-use Rattle.station_cli.specs.Report.{IsFaultAt}
-use Rattle.station_cli.proofs.Parsed.{analysable, refused_within}
+use Rattle.st_lexer.specs.declared.cut.LexFault.{LexFault}
+use Rattle.st_lexer.specs.declared.cut.LexFault.TheVariants as lex
+use Rattle.st_units.specs.Files.{IsFileFault, Stops}
+use Rattle.st_units.specs.declared.reading.ParseFault.{ParseFault}
+use Rattle.st_units.specs.declared.reading.ParseFault.TheVariants.{At, Lex}
+use Rattle.station_ports.specs.declared.outside.NoMemory.{NoMemory}
+use Rattle.station_cli.specs.Report.{IsFaultAt, IsWhole}
+use Rattle.station_cli.specs.Parsing.{IsParsed}
+use Rattle.station_cli.specs.declared.report.Parsed.{Parsed}
 use Rattle.station_cli.proofs.report.tree_of.Goals as goal
+use Rattle.station_cli.proofs.report.tree_of.Goals.{in-Ok, in-Err-At, in-Err-Lex-At, in-Err+in-Err-Lex-NoMemory}
 
 -- a fault of an equal code at an equal place
 equal : (text : List ℕ) (c d : FaultCode) (m n : ℕ) → c ≡ d → m ≡ n → IsFaultAt text d n → n ≤ length text → IsFaultAt text c m × (m ≤ length text)
 equal text c d m n e f fault within =
     (subst (λ (k : ℕ). IsFaultAt text c k) (sym f) (subst (λ (k : FaultCode). IsFaultAt text k n) (sym e) fault), subst (λ (k : ℕ). k ≤ length text) (sym f) within)
 
-pub returns-in-Ok-first_form : goal.returns-in-Ok-first_form
-returns-in-Ok-first_form g c =
-    let text = c.args.text.now in
-    let items = c.in-Ok.tokens.list.items in
-    let same : c.bytes.result.now ≡ text = c.bytes.ensures.value in
-    let cut : IsCut text items = subst (λ (bytes : List ℕ). IsCut bytes items) same c.in-Ok.ensures.answers.1 in
-    let tree : IsTree text items c.in-Ok-first_form.tree = subst (λ (bytes : List ℕ). IsTree bytes items c.in-Ok-first_form.tree) (c.in-Ok.ensures.answers.0 ∙ same) c.in-Ok-first_form.ensures.answers in
-    (items, cut, tree, analysable c.tree_laws.ensures.sound text items c.in-Ok-first_form.tree (c.cut_laws.ensures.tokens_in text items cut) c.bytes.ensures.bound tree)
+-- what is parsed of a text whose tokens spell a file
+of_file : (text : List ℕ) (r : Result Parsed NoMemory) → IfOk r (λ parsed. (tokens : List Token) → IsCut text tokens → IsWhole text tokens → IsParsed text parsed) → (tokens : List Token) → IsCut text tokens → IsWhole text tokens → IfOk r (IsParsed text)
+of_file text (Ok parsed) h tokens cut whole = h tokens cut whole
+of_file text (Err e) h tokens cut whole = tt
 
-pub returns-in-Err-At : goal.returns-in-Err-At
-returns-in-Err-At g c =
+pub returns : goal.returns
+returns g c =
     let text = c.args.text.now in
-    let of_bytes : IsFault c.bytes.result.now c.in-Err-At.code c.in-Err-At.at = subst (lexer.Refuses c.bytes.result.now) c.in-Err-At.field-0-is c.in-Err-At.ensures.answers in
-    let fault : IsFault text c.in-Err-At.code c.in-Err-At.at = subst (λ (bytes : List ℕ). IsFault bytes c.in-Err-At.code c.in-Err-At.at) c.bytes.ensures.value of_bytes in
-    equal text _ c.in-Err-At.code _ c.in-Err-At.at c.in-Err-At.code-is c.in-Err-At.at-is (inl fault) (c.cut_laws.ensures.fault_in text c.in-Err-At.code c.in-Err-At.at fault)
-
-pub returns-in-Err-At-first_form : goal.returns-in-Err-At-first_form
-returns-in-Err-At-first_form g c =
-    let text = c.args.text.now in
-    let items = c.in-Ok.tokens.list.items in
-    let same : c.bytes.result.now ≡ text = c.bytes.ensures.value in
-    let cut : IsCut text items = subst (λ (bytes : List ℕ). IsCut bytes items) same c.in-Ok.ensures.answers.1 in
-    let at_fault : Refuses c.in-Ok.tokens.text.now items (At c.in-Err-At-first_form.code c.in-Err-At-first_form.at) = subst (Refuses c.in-Ok.tokens.text.now items) c.in-Err-At-first_form.field-0-is c.in-Err-At-first_form.ensures.answers in
-    let refused : IsRefused text items c.in-Err-At-first_form.at = subst (λ (bytes : List ℕ). IsRefused bytes items c.in-Err-At-first_form.at) (c.in-Ok.ensures.answers.0 ∙ same) at_fault.1 in
-    (inr (at_fault.0, items, cut, refused), refused_within text items c.in-Err-At-first_form.at (c.cut_laws.ensures.tokens_in text items cut) refused)
+    let bytes = c.bytes.result.now in
+    let same : bytes ≡ text = c.bytes.ensures.value in
+    elim c.match-parse_parts.branch [
+      | in-Ok w ↦
+          let a = w.in-Ok.ensures.answers in
+          rw w.result-is (of_file text w.first_tree.result w.first_tree.ensures a.0 (subst (λ (b : List ℕ). IsCut b a.0) same a.1) (subst (λ (b : List ℕ). IsWhole b a.0) same (w.in-Ok.field-0, a.2)))
+      | in-Err-At w ↦
+          let a : Stops bytes c.args.steps.now.parsed c.parse_parts.new.steps.parsed (At w.in-Err-At.code w.in-Err-At.at) = subst (Stops bytes c.args.steps.now.parsed c.parse_parts.new.steps.parsed) w.in-Err-At.field-0-is w.in-Err-At.ensures.answers in
+          let cut : IsCut text a.0 = subst (λ (b : List ℕ). IsCut b a.0) same a.1 in
+          let fault : IsFileFault text a.0 w.in-Err-At.code w.in-Err-At.at = subst (λ (b : List ℕ). IsFileFault b a.0 w.in-Err-At.code w.in-Err-At.at) same a.2 in
+          rw w.result-is (equal text _ w.in-Err-At.code _ w.in-Err-At.at w.in-Err-At.code-is w.in-Err-At.at-is (inr (a.0, cut, fault)) (c.file_laws.ensures.fault_in text a.0 w.in-Err-At.code w.in-Err-At.at (c.cut_laws.ensures.tokens_in text a.0 cut) fault))
+      | in-Err-Lex-At w ↦
+          let code = w.in-Err-Lex-At.code in
+          let at = w.in-Err-Lex-At.at in
+          let of_lex : Stops bytes c.args.steps.now.parsed c.parse_parts.new.steps.parsed (Lex w.in-Err-Lex-At.field-0-0) = subst (Stops bytes c.args.steps.now.parsed c.parse_parts.new.steps.parsed) w.in-Err-Lex-At.field-0-is w.in-Err-Lex-At.ensures.answers in
+          let found : w.in-Err-Lex-At.field-0-0 ≡ lex.At code at = rw w.in-Err-Lex-At.field-0-is at w.in-Err-Lex-At.field-0-0-is in
+          let a : Stops bytes c.args.steps.now.parsed c.parse_parts.new.steps.parsed (Lex (lex.At code at)) = subst (λ (f : LexFault). Stops bytes c.args.steps.now.parsed c.parse_parts.new.steps.parsed (Lex f)) found of_lex in
+          let fault : IsFault text code at = subst (λ (b : List ℕ). IsFault b code at) same a.0 in
+          rw w.result-is (equal text _ code _ at w.in-Err-Lex-At.code-is w.in-Err-Lex-At.at-is (inl fault) (c.cut_laws.ensures.fault_in text code at fault))
+      | in-Err+in-Err-Lex-NoMemory w ↦ rw w.result-is tt
+    ]

@@ -1,7 +1,7 @@
 -- The causes and the completeness follow from what the work and the writing ensure.
 use Rattle.station_cli.specs.Run.{out_of_memory}
 use Rattle.station_cli.proofs.Complete.{completes, misused_ends, above_ends}
-use Rattle.station_cli.specs.declared.status.Status.TheVariants.{Clean, Open, Refused}
+use Rattle.station_cli.specs.declared.status.Status.TheVariants.{Clean, Open, NotAnalysed, Refused}
 use Rattle.station_cli.proofs.Reported.{reported_ends, status_reported, status_above}
 use Rattle.station_cli.proofs.Says.{free_says, alarms_say, reported_safe, reported_covered}
 use Rattle.station_cli.proofs.run.run.Goals as goal
@@ -64,26 +64,29 @@ returns-in-Err-clause-reported g c =
 
 pub returns-in-Ok-clause-clean : goal.returns-in-Ok-clause-clean
 returns-in-Ok-clause-clean g c = λ e.
-    reported_safe c.headline.ensures.covered c.headline.ensures.steady c.cut_laws.ensures.one_cut c.cut_laws.ensures.not_both c.tree_laws.ensures.one (map string_bytes c.args.words.now) _
+    reported_safe c.headline.ensures.covered c.headline.ensures.steady c.cut_laws.ensures.one_cut c.cut_laws.ensures.not_both c.tree_laws.ensures.one c.file_laws.ensures.not_both (map string_bytes c.args.words.now) _
     (status_reported (map string_bytes c.args.words.now) c.in-Ok.ensures.work (rw c.deref.ensures.value at c.write_line.ensures) Clean e refl)
 
 pub returns-in-Err-clause-clean : goal.returns-in-Err-clause-clean
 returns-in-Err-clause-clean g c = λ e.
-    reported_safe c.headline.ensures.covered c.headline.ensures.steady c.cut_laws.ensures.one_cut c.cut_laws.ensures.not_both c.tree_laws.ensures.one (map string_bytes c.args.words.now) _
+    reported_safe c.headline.ensures.covered c.headline.ensures.steady c.cut_laws.ensures.one_cut c.cut_laws.ensures.not_both c.tree_laws.ensures.one c.file_laws.ensures.not_both (map string_bytes c.args.words.now) _
     (status_reported (map string_bytes c.args.words.now) {old = record { files = g.F.Files.view c.args.files.now }} {new = record { files = g.F.Files.view c.work.new.files }} (record { course = out_of_memory; cause = c.work.ensures.calls; status_is = refl; text_is = refl }) c.write_no_memory.ensures Clean e refl)
 
 pub returns-in-Ok-clause-open : goal.returns-in-Ok-clause-open
 returns-in-Ok-clause-open g c = λ e.
-    reported_covered c.headline.ensures.covered c.headline.ensures.steady c.cut_laws.ensures.one_cut c.cut_laws.ensures.not_both c.tree_laws.ensures.one (map string_bytes c.args.words.now) _
+    reported_covered c.headline.ensures.covered c.headline.ensures.steady c.cut_laws.ensures.one_cut c.cut_laws.ensures.not_both c.tree_laws.ensures.one c.file_laws.ensures.not_both (map string_bytes c.args.words.now) _
     (status_reported (map string_bytes c.args.words.now) c.in-Ok.ensures.work (rw c.deref.ensures.value at c.write_line.ensures) Open e refl)
 
 pub returns-in-Err-clause-open : goal.returns-in-Err-clause-open
 returns-in-Err-clause-open g c = λ e.
-    reported_covered c.headline.ensures.covered c.headline.ensures.steady c.cut_laws.ensures.one_cut c.cut_laws.ensures.not_both c.tree_laws.ensures.one (map string_bytes c.args.words.now) _
+    reported_covered c.headline.ensures.covered c.headline.ensures.steady c.cut_laws.ensures.one_cut c.cut_laws.ensures.not_both c.tree_laws.ensures.one c.file_laws.ensures.not_both (map string_bytes c.args.words.now) _
     (status_reported (map string_bytes c.args.words.now) {old = record { files = g.F.Files.view c.args.files.now }} {new = record { files = g.F.Files.view c.work.new.files }} (record { course = out_of_memory; cause = c.work.ensures.calls; status_is = refl; text_is = refl }) c.write_no_memory.ensures Open e refl)
 
 pub returns-in-Ok-clause-refused : goal.returns-in-Ok-clause-refused
 returns-in-Ok-clause-refused g c = λ e. status_reported (map string_bytes c.args.words.now) c.in-Ok.ensures.work (rw c.deref.ensures.value at c.write_line.ensures) Refused e refl
+
+pub returns-in-Ok-clause-not_analysed : goal.returns-in-Ok-clause-not_analysed
+returns-in-Ok-clause-not_analysed g c = λ e. status_reported (map string_bytes c.args.words.now) c.in-Ok.ensures.work (rw c.deref.ensures.value at c.write_line.ensures) NotAnalysed e refl
 
 pub returns-in-Ok-clause-too_long : goal.returns-in-Ok-clause-too_long
 returns-in-Ok-clause-too_long g c = λ e. status_above (map string_bytes c.args.words.now) c.in-Ok.ensures.work (rw c.deref.ensures.value at c.write_line.ensures) e

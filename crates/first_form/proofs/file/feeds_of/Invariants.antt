@@ -1,6 +1,0 @@
-use Rattle.std.proofs.Common.{◌≡◌, ◌++◌, drop}
-use Rattle.first_form.specs.Feeds.{feeds_from}
-use Rattle.first_form.proofs.file.feeds_of.Given as goal
-
-abbrev pub invariant-loop-at : goal.invariant-loop-at
-invariant-loop-at l = l.feeds ++ feeds_from l.at (drop l.at l.text) ≡ feeds_from 0 l.text
