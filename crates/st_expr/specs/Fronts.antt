@@ -55,9 +55,15 @@ abbrev pub Refuses : {A : Type 0} → Rule A → ℕ → List ℕ → List Token
 Refuses L outer text tokens from (At code at) = IsFrontFault L outer text tokens from code at
 Refuses L outer text tokens from NoMemory = Unit {0}
 
-abbrev pub Parses : {A : Type 0} → Rule A → ℕ → List ℕ → List Token → ℕ → Result (A × ℕ) ParseFault → Type 0
-Parses L outer text tokens from (Ok read) = IsFront L outer text tokens from read.0 read.1
-Parses L outer text tokens from (Err fault) = Refuses L outer text tokens from fault
+-- what is found, before it is numbered
+abbrev pub Finds : {A : Type 0} → Rule A → ℕ → List ℕ → List Token → ℕ → Result (A × ℕ) ParseFault → Type 0
+Finds L outer text tokens from (Ok read) = IsFront L outer text tokens from read.0 read.1
+Finds L outer text tokens from (Err fault) = Refuses L outer text tokens from fault
+
+-- the same, with the nodes of what is spelled numbered
+abbrev pub Parses : {A : Type 0} → Rule A → (A → A) → ℕ → List ℕ → List Token → ℕ → Result (A × ℕ) ParseFault → Type 0
+Parses L number outer text tokens from (Ok read) = (x : _) × IsFront L outer text tokens from x read.1 × (read.0 ≡ number x)
+Parses L number outer text tokens from (Err fault) = Refuses L outer text tokens from fault
 
 -- ---- what holds of the fronts of a list of tokens
 

@@ -1,6 +1,7 @@
 // What is read of a list of tokens from one of them on: an expression or statements, or the place where the tokens stop being that.
 
-ghost use Rattle.std.specs.Prelude.{◌≡◌, ◌+◌, ◌≤◌, IfOk, length, drop};
+ghost use Rattle.std.specs.Prelude.{◌≡◌, ◌+◌, ◌≤◌, [], IfOk, length, drop};
+ghost use Rattle.tree_copies.specs.Numbers.{numbered_expr, numbered_stmts};
 ghost use Rattle.std.specs.List.{filter};
 ghost use Rattle.token_grammar.specs.Grammar.{max_depth};
 ghost use Rattle.token_grammar.specs.Input.{view};
@@ -14,8 +15,10 @@ use crate::statements::statement_list;
 use iec_tables::fault::FaultCode;
 use sqlite_items::Items;
 use st_tree::{Expr, Stmt};
+use station_ports::outside::NoMemory;
 use std::alloc::{AllocError, Global};
 use token_grammar::{Cursor, ParseError, Token, TokenKind, Tokens, drop_comments};
+use tree_copies::{Counting, Starts, number_expr, number_stmts};
 
 /// Why nothing was read: a fault and its place in bytes, or no memory.
 #[derive(Clone, Copy, Debug, PartialEq, Eq)]
@@ -36,9 +39,19 @@ impl From<AllocError> for ParseFault {
     }
 }
 
+impl From<NoMemory> for ParseFault {
+    ghost use Rattle.st_expr.specs.declared.fronts.ParseFault.TheVariants as fault;
+
+    ghost from_gives = { λ _ e. e ≡ fault.NoMemory };
+
+    fn from(_error: NoMemory) -> ParseFault {
+        ParseFault::NoMemory
+    }
+}
+
 /// The expression that the tokens from the number `from` on begin with, and the number of the token behind it: of the next one that is neither
-/// a comment nor a pragma, or the number of tokens where none is left. The expression stands `outer` deep, at most 256. Its nodes all have the
-/// number 0. Where the longest front that begins an expression spells none within the depth, the fault says why and where.
+/// a comment nor a pragma, or the number of tokens where none is left. The expression stands `outer` deep, at most 256. Its nodes are numbered
+/// from 0. Where the longest front that begins an expression spells none within the depth, the fault says why and where.
 pub fn parse_expression(
     alloc: Global,
     tokens: &Tokens<'_>,
@@ -47,7 +60,39 @@ pub fn parse_expression(
 ) -> Result<(Expr, usize), ParseFault>
     requires from { from ≤ length tokens.now.list.items }
     requires outer { outer ≤ max_depth }
-    ensures { spec.Parses expressions.expression outer tokens.now.text.now tokens.now.list.items from result }
+    ensures { spec.Parses expressions.expression (numbered_expr []) outer tokens.now.text.now tokens.now.list.items from result }
+{
+    let (tree, behind) = expression_front(alloc, tokens, from, outer)?;
+    let mut counting = Counting::new(alloc, Starts::of(&[]));
+    Ok((number_expr(alloc, &tree, &mut counting)?, behind))
+}
+
+/// The statements that the tokens from the number `from` on begin with, and the number of the token behind them: of the next one that is
+/// neither a comment nor a pragma, or the number of tokens where none is left. Their nodes are numbered from 0. Where the longest front that
+/// begins statements spells none within the depth, the fault says why and where.
+pub fn parse_statements(
+    alloc: Global,
+    tokens: &Tokens<'_>,
+    from: usize,
+) -> Result<(Items<Stmt>, usize), ParseFault>
+    requires { from ≤ length tokens.now.list.items }
+    ensures { spec.Parses lists.statements (numbered_stmts []) 0 tokens.now.text.now tokens.now.list.items from result }
+{
+    let (statements, behind) = statements_front(alloc, tokens, from)?;
+    let mut counting = Counting::new(alloc, Starts::of(&[]));
+    Ok((number_stmts(alloc, &statements, &mut counting)?, behind))
+}
+
+/// The expression at the front, without numbers.
+fn expression_front(
+    alloc: Global,
+    tokens: &Tokens<'_>,
+    from: usize,
+    outer: usize,
+) -> Result<(Expr, usize), ParseFault>
+    requires from { from ≤ length tokens.now.list.items }
+    requires outer { outer ≤ max_depth }
+    ensures { spec.Finds expressions.expression outer tokens.now.text.now tokens.now.list.items from result }
 {
     let kept = kept_from(alloc, tokens.list.as_slice(), from)?;
     let mut cursor = Cursor {
@@ -65,16 +110,14 @@ pub fn parse_expression(
     }
 }
 
-/// The statements that the tokens from the number `from` on begin with, and the number of the token behind them: of the next one that is
-/// neither a comment nor a pragma, or the number of tokens where none is left. Their nodes all have the number 0. Where the longest front that
-/// begins statements spells none within the depth, the fault says why and where.
-pub fn parse_statements(
+/// The statements at the front, without numbers.
+fn statements_front(
     alloc: Global,
     tokens: &Tokens<'_>,
     from: usize,
 ) -> Result<(Items<Stmt>, usize), ParseFault>
     requires { from ≤ length tokens.now.list.items }
-    ensures { spec.Parses lists.statements 0 tokens.now.text.now tokens.now.list.items from result }
+    ensures { spec.Finds lists.statements 0 tokens.now.text.now tokens.now.list.items from result }
 {
     let kept = kept_from(alloc, tokens.list.as_slice(), from)?;
     let mut cursor = Cursor {

@@ -12,10 +12,12 @@ use std::marker::Brand;
 use std::sync::ledger::{Blank, Ledger};
 use tree_copies::Copied;
 
-/// An operator between two operands, with its first byte and the byte after its last.
-fn binary(tree: &Expr) -> Option<(BinaryOperator, usize, usize)> {
+/// An operator between two operands, with its number, its first byte and the byte after its last.
+fn binary(tree: &Expr) -> Option<(BinaryOperator, u32, usize, usize)> {
     match tree {
-        Expr::Binary(node, operator, _, _) => Some((*operator, node.start, node.end)),
+        Expr::Binary(node, operator, _, _) => {
+            Some((*operator, node.number.0, node.start, node.end))
+        }
         _ => None,
     }
 }
@@ -33,8 +35,8 @@ fn grouped(
     text: &str,
 ) -> Option<
     (
-        Option<(BinaryOperator, usize, usize)>,
-        Option<(BinaryOperator, usize, usize)>,
+        Option<(BinaryOperator, u32, usize, usize)>,
+        Option<(BinaryOperator, u32, usize, usize)>,
         usize,
     ),
 > {
@@ -53,16 +55,16 @@ fn operators_group_to_the_left(rt: HostRuntime) {
     assert_eq!(rt;
         grouped(alloc, "a - b - c"),
         Some((
-            Some((BinaryOperator::Subtract, 0, 9)),
-            Some((BinaryOperator::Subtract, 0, 5)),
+            Some((BinaryOperator::Subtract, 0, 0, 9)),
+            Some((BinaryOperator::Subtract, 1, 0, 5)),
             5
         ))
     );
     assert_eq!(rt;
         grouped(alloc, "a < b (* x *) < c {y} ; d"),
         Some((
-            Some((BinaryOperator::Less, 0, 17)),
-            Some((BinaryOperator::Less, 0, 5)),
+            Some((BinaryOperator::Less, 0, 0, 17)),
+            Some((BinaryOperator::Less, 1, 0, 5)),
             7
         ))
     );

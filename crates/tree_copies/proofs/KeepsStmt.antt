@@ -17,7 +17,7 @@ use Rattle.tree_copies.specs.Turns.{Turn, turn3, turn4, each}
 use Rattle.tree_copies.specs.Rebuilt.{Passes, rebuilt_expr}
 use Rattle.tree_copies.specs.Statements.{point, label, argument, stmt_layer, branch_layer, case_layer, rebuilt_stmt, rebuilt_branch, rebuilt_case}
 use Rattle.tree_copies.proofs.Stmts.{rolled_stmt}
-use Rattle.tree_copies.proofs.Keeping.{Three, Again, Keeps, Held, node_keeps, at1, at2, at3, at4, at6, each_keeps, each_held, perhaps_keeps, perhaps_each_again, perhaps_each_held}
+use Rattle.tree_copies.proofs.Keeping.{Three, Again, Keeps, Held, node_keeps, at1, at2, at3, at4, at6, each_again, each_keeps, each_held, perhaps_keeps, perhaps_each_again, perhaps_each_held}
 use Rattle.tree_copies.proofs.KeepsExpr.{identifier_keeps, expr_again, expr_keeps, path_keeps}
 
 abbrev pub point_again : Again Point
@@ -116,3 +116,9 @@ stmt_keeps t = ind-Stmt (Keeps t stmt_again) (Keeps t branch_again) (Keeps t cas
     (λ x y is. subst (λ z. Keeps t stmt_again (roll-Stmt z)) is (stmt_layer_keeps t y))
     (λ x y is. subst (λ z. Keeps t branch_again (roll-Branch z)) is (branch_layer_keeps t y))
     (λ x y is. subst (λ z. Keeps t case_again (roll-Case z)) is (case_layer_keeps t y))
+
+abbrev pub stmts_again : Again (List Stmt)
+stmts_again = each_again stmt_again
+
+pub stmts_keep : {S U V : Type 0} (t : Three S U V) (xs : List Stmt) → Keeps t stmts_again xs
+stmts_keep t xs = each_keeps t stmt_again (stmt_keeps t) xs

@@ -2,9 +2,11 @@
 use Rattle.std.specs.Prelude.{List, [], ◌∷◌, ◌++◌, map}
 use Rattle.st_tree.specs.declared.node.Node.{Node}
 use Rattle.st_tree.specs.declared.expression.Expr.{Expr}
+use Rattle.st_tree.specs.declared.statement.Stmt.{Stmt}
 use Rattle.st_tree.specs.declared.file.FilePart.{FilePart}
 use Rattle.tree_copies.specs.Turns.{Turn, each}
 use Rattle.tree_copies.specs.Rebuilt.{rebuilt_expr}
+use Rattle.tree_copies.specs.Statements.{rebuilt_stmt}
 use Rattle.tree_copies.specs.Files.{file_part}
 
 -- a node stays, and is one more on the list
@@ -29,3 +31,10 @@ nodes_of_parts xs = (each (map (file_part listed) xs) []).1
 
 abbrev pub bare_parts : List FilePart → List FilePart
 bare_parts xs = (each (map (file_part cleared) xs) []).0
+
+-- and of statements
+abbrev pub nodes_of_stmts : List Stmt → List Node
+nodes_of_stmts xs = (each (map (rebuilt_stmt listed) xs) []).1
+
+abbrev pub bare_stmts : List Stmt → List Stmt
+bare_stmts xs = (each (map (rebuilt_stmt cleared) xs) []).0

@@ -21,7 +21,7 @@ pub use copies::Copied;
 pub use declaration::{rebuild_init, rebuild_spec};
 pub use expression::{rebuild_expr, rebuild_path};
 pub use law::numbering_laws;
-pub use numbered::{number_expr, number_parts};
+pub use numbered::{number_expr, number_parts, number_stmts};
 pub use numbers::{Counting, numbered_node};
 pub use parts::source_tree;
 pub use passes::Passes;

@@ -10,7 +10,7 @@ use Rattle.token_grammar.proofs.Found.{ok_of, err_of}
 use Rattle.st_expr.specs.ParseStatements as p
 use Rattle.st_expr.proofs.StatementExactness.{exact_statements}
 use Rattle.st_expr.proofs.FrontAnswers.{shallow, no_longer, front_found, front_refused}
-use Rattle.st_expr.proofs.fronts.parse_statements.Goals as goal
+use Rattle.st_expr.proofs.fronts.statements_front.Goals as goal
 
 pub overflow_sub-read : goal.overflow_sub-read
 overflow_sub-read c =
