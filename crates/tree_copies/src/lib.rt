@@ -14,8 +14,6 @@ mod rebuild;
 mod same;
 mod starts;
 mod statement;
-#[cfg(test)]
-mod tests;
 
 pub use copies::Copied;
 pub use declaration::{rebuild_init, rebuild_spec};
