@@ -60,10 +60,10 @@ split ts rest fault.NotBuilt h = absurd h
 
 pub some_file : SomeFile
 some_file text tokens = by (some_answer exact_file refl 0 (words_of text tokens)) where
-    by : HasAnswer exact_file refl 0 (words_of text tokens) → ((parts : List FilePart) × IsFile text tokens parts) ⊎ ((code : FaultCode) × (at : ℕ) × IsFileFault text tokens code at)
-    by (inl s) = inl s
-    by (inr (inl b)) = inr (fault.Grammar, place_at text b.0, record { rest = b.0; cause = b.1; place = refl })
-    by (inr (inr d)) = inr (fault.TooDeep, place_at text d.0, record { rest = d.0; cause = d.1; place = refl })
+  by : HasAnswer exact_file refl 0 (words_of text tokens) → ((parts : List FilePart) × IsFile text tokens parts) ⊎ ((code : FaultCode) × (at : ℕ) × IsFileFault text tokens code at)
+  by (inl s) = inl s
+  by (inr (inl b)) = inr (fault.Grammar, place_at text b.0, record { rest = b.0; cause = b.1; place = refl })
+  by (inr (inr d)) = inr (fault.TooDeep, place_at text d.0, record { rest = d.0; cause = d.1; place = refl })
 
 pub one_file : OneFile
 one_file text tokens parts other a b = one_spelled exact_file refl here (words_of text tokens) parts other a b
