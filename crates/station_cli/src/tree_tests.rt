@@ -2,15 +2,16 @@
 ghost use Rattle.std.specs.Prelude.{◌≡◌};
 
 use iec_tables::fault::FaultCode;
+use sqlite_items::Items;
 use st_expr::{ParseFault as FrontFault, parse_expression, parse_statements};
 use st_lexer::{LexFault, tokens};
-use st_tree::{BinaryOperator, Expr, SourceTree, Stmt, Unit};
-use st_units::{ParseFault, parse_file};
+use st_tree::{BinaryOperator, Expr, FilePart, SourceTree, Stmt, Unit};
+use st_units::{ParseFault, parse_file, parse_parts};
 use station_ports::steps::Steps;
 use std::alloc::Global;
 use std::marker::Brand;
 use std::sync::ledger::{Blank, Ledger};
-use tree_copies::Copied;
+use tree_copies::{Copied, Counting, Starts, number_parts};
 
 /// An operator between two operands, with its number, its first byte and the byte after its last.
 fn binary(tree: &Expr) -> Option<(BinaryOperator, u32, usize, usize)> {
@@ -201,11 +202,29 @@ fn fronts_of_token_lists(rt: HostRuntime) {
 
 const FILE: &str = "(* c *) PROGRAM P // d\nVAR a : INT; END_VAR a := 1; {x} END_PROGRAM\n(* e *)";
 
-/// What `parse_file` gave, and the parse steps that it counted.
+/// What `parse_file` gave, the parse steps that it counted, and whether no node of the text's parts begins before one with a lower number.
 #[derive(Drop)]
 struct Answer {
     result: Result<SourceTree, ParseFault>,
     steps: u64,
+    is_rising: bool,
+}
+
+fn is_rising(places: &[usize]) -> bool {
+    let mut last = 0;
+    for place in places {
+        if *place < last {
+            return false;
+        }
+        last = *place;
+    }
+    true
+}
+
+/// Whether the nodes of parts begin in the order of their numbers.
+fn starts_rise(alloc: Global, parts: &Items<FilePart>) -> bool {
+    let mut counting = Counting::new(alloc, Starts::of(&[]));
+    number_parts(alloc, parts, &mut counting).is_ok() && is_rising(counting.starts.as_slice())
 }
 
 fn parsed<L: Ledger>(rt: &HostRuntime, blank: Blank, text: &[u8]) -> Answer
@@ -215,9 +234,15 @@ fn parsed<L: Ledger>(rt: &HostRuntime, blank: Blank, text: &[u8]) -> Answer
 {
     let mut steps = Steps::<L>::new(rt, blank);
     let result = parse_file(rt.alloc(), text, &mut steps);
+    let counted = steps.parsed();
+    let is_rising = match parse_parts(rt.alloc(), text, &mut steps) {
+        Ok(parts) => starts_rise(rt.alloc(), &parts),
+        Err(_) => true,
+    };
     Answer {
         result,
-        steps: steps.parsed(),
+        steps: counted,
+        is_rising,
     }
 }
 
@@ -236,10 +261,11 @@ fn is_taken(alloc: Global, answer: &Result<SourceTree, ParseFault>, fault: &str)
     }
 }
 
-/// Whether a text has a tree that can be copied, or is refused for this fault, with so many parse steps.
+/// Whether a text has a tree that can be copied, with its nodes numbered in the order of their first bytes, or is refused for this fault, with so
+/// many parse steps.
 pub(crate) fn is_tree_of(rt: &HostRuntime, text: &str, fault: &str, steps: u64) -> bool {
     let found = parsed_text(rt, text);
-    found.steps == steps && is_taken(rt.alloc(), &found.result, fault)
+    found.steps == steps && found.is_rising && is_taken(rt.alloc(), &found.result, fault)
 }
 
 /// The numbers of a unit, of its name, of its first section and of its first statement, if that is an assignment.
