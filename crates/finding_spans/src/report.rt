@@ -2,7 +2,7 @@
 
 use iec_tables::fault::FaultCode;
 use iec_tables::kind::Kind;
-use sqlite_items::Items;
+use tree_items::Items;
 use st_tree::{PlanRefusal, Site};
 use station_ports::texts::Name;
 

@@ -14,7 +14,7 @@ use crate::names::Declared;
 use crate::parser::Parser;
 use crate::tree::{Decl, Identifier, Section, Spec};
 use iec_tables::elem::Elem;
-use sqlite_items::Items;
+use tree_items::Items;
 use st_tree::Node;
 use token_grammar::{ParseError, TokenKind};
 

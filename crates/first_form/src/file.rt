@@ -11,7 +11,7 @@ ghost use Rattle.first_form.specs.Answers.{Answers, Parses, fault_of};
 use crate::parser::Parser;
 use crate::tree::{SourceTree, Unit};
 use iec_tables::fault::FaultCode;
-use sqlite_items::Items;
+use tree_items::Items;
 use st_tree::feeds_of;
 use std::alloc::{AllocError, Global};
 use token_grammar::{Cursor, ParseError, Tokens, drop_comments};

@@ -13,7 +13,7 @@ ghost use Rattle.first_form.specs.Parse.{knows};
 use crate::names::Declared;
 use crate::parser::Parser;
 use crate::tree::{Section, Stmt, Unit};
-use sqlite_items::Items;
+use tree_items::Items;
 use st_tree::Node;
 use token_grammar::{ParseError, TokenKind};
 

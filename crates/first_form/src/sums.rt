@@ -14,7 +14,7 @@ ghost use Rattle.first_form.specs.Parse as p;
 use crate::names::Declared;
 use crate::parser::Parser;
 use crate::tree::{Expr, Literal, Path};
-use sqlite_items::Boxed;
+use tree_items::Boxed;
 use st_tree::{Node, NodeNo, Operator};
 use std::alloc::{AllocError, Global};
 use token_grammar::{ParseError, Token, TokenKind};

@@ -1,7 +1,7 @@
 // The tree of a source text, after the textual grammar of the standard. Each node holds its number and its place.
 
 use iec_tables::elem::Elem;
-use sqlite_items::{Boxed, Items};
+use tree_items::{Boxed, Items};
 use st_tree::{Node, Operator};
 use station_ports::texts::Name;
 

@@ -11,7 +11,7 @@ use crate::labels::{labels, labels_behind, point_behind, value_point};
 use crate::names::{identifier, node_at};
 use crate::simple::{behind_name, expression};
 use crate::statements::{Block, sees_unnamed};
-use sqlite_items::Items;
+use tree_items::Items;
 use st_tree::{Case, Identifier, Label, Stmt};
 use std::alloc::{AllocError, Global};
 use token_grammar::{Cursor, ParseError, TokenKind};

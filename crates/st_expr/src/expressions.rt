@@ -11,7 +11,7 @@ ghost use Rattle.st_expr.specs.Nests.{Nests};
 
 use crate::names::{identifier, node_at, word};
 use crate::rank::{operators, rank_of, sees_operator};
-use sqlite_items::{Boxed, Items};
+use tree_items::{Boxed, Items};
 use st_tree::{Argument, BinaryOperator, Expr, Identifier, Node, Path, Root, UnaryOperator};
 use std::alloc::{AllocError, Global};
 use token_grammar::{Cursor, ParseError, TokenKind};

@@ -13,7 +13,7 @@ ghost use Rattle.st_expr.specs.Fronts as spec;
 use crate::simple::expression;
 use crate::statements::statement_list;
 use iec_tables::fault::FaultCode;
-use sqlite_items::Items;
+use tree_items::Items;
 use st_tree::{Expr, Stmt};
 use station_ports::outside::NoMemory;
 use std::alloc::{AllocError, Global};

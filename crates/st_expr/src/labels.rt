@@ -6,7 +6,7 @@ ghost use Rattle.st_expr.specs.ParseStatements as spec;
 ghost use Rattle.st_expr.specs.StatementTrees as trees;
 
 use crate::names::{identifier, node_at, word};
-use sqlite_items::Items;
+use tree_items::Items;
 use st_tree::{Identifier, Label, Point};
 use std::alloc::Global;
 use token_grammar::{Cursor, ParseError, TokenKind};

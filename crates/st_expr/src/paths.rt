@@ -7,7 +7,7 @@ ghost use Rattle.st_expr.specs.Nests.{Nests};
 
 use crate::expressions::Grammar;
 use crate::names::{address, identifier, node_at};
-use sqlite_items::Items;
+use tree_items::Items;
 use st_tree::{Expr, Part, Path, Root};
 use std::alloc::Global;
 use token_grammar::{Cursor, ParseError, TokenKind};

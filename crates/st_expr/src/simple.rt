@@ -8,7 +8,7 @@ ghost use Rattle.st_expr.specs.StatementTrees as trees;
 
 use crate::expressions::{Grammar, expression_at};
 use crate::names::{identifier, node_at};
-use sqlite_items::Items;
+use tree_items::Items;
 use st_tree::{Expr, Identifier, Node, Part, Path, Root, Stmt, StmtArgument};
 use std::alloc::Global;
 use token_grammar::{Cursor, ParseError, TokenKind};

@@ -7,7 +7,7 @@ ghost use Rattle.st_expr.specs.ParseStatements as spec;
 ghost use Rattle.st_expr.specs.NestsStatements.{NestsStatements};
 
 use crate::simple::{NEST, assign, continue_stmt, exit_stmt, named, return_stmt};
-use sqlite_items::Items;
+use tree_items::Items;
 use st_tree::Stmt;
 use std::alloc::Global;
 use token_grammar::{Cursor, ParseError, TokenKind};

@@ -9,7 +9,7 @@ ghost use Rattle.st_expr.specs.NestsStatements.{NestsStatements};
 use crate::names::{identifier, node_at};
 use crate::simple::expression;
 use crate::statements::Block;
-use sqlite_items::Items;
+use tree_items::Items;
 use st_tree::{Branch, Expr, Identifier, Stmt};
 use std::alloc::Global;
 use token_grammar::{Cursor, ParseError, TokenKind};

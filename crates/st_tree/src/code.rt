@@ -3,8 +3,8 @@
 
 use crate::node::Site;
 use iec_tables::elem::Elem;
-use sqlite_items::Items;
 use station_ports::texts::Name;
+use tree_items::Items;
 
 /// A cell: the task's own, or one that all tasks share, by its place among those.
 #[derive(Clone, Copy, Debug, PartialEq, Eq)]

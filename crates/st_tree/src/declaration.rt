@@ -3,8 +3,8 @@
 use crate::expression::{Address, Expr, Identifier};
 use crate::node::Node;
 use iec_tables::elem::Elem;
-use sqlite_items::{Boxed, Items};
 use station_ports::texts::Name;
+use tree_items::{Boxed, Items};
 
 /// A type by its name.
 #[derive(Drop)]
@@ -28,15 +28,15 @@ pub enum Spec {
 #[derive(Drop)]
 pub struct Range {
     pub node: Node,
-    pub lower: Expr,
-    pub upper: Expr,
+    pub lower: Boxed<Expr>,
+    pub upper: Boxed<Expr>,
 }
 
 /// An initial value.
 #[cycle(init)]
 #[derive(Drop)]
 pub enum Init {
-    Value(Expr),
+    Value(Boxed<Expr>),
     /// The elements of an array: `"[" item { "," item } "]"`
     Array(Node, Items<Item>),
     /// The fields of a structure: `"(" name ":=" init { "," name ":=" init } ")"`

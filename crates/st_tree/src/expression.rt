@@ -1,8 +1,8 @@
 // Expressions and paths.
 
 use crate::node::Node;
-use sqlite_items::{Boxed, Items};
 use station_ports::texts::Name;
+use tree_items::{Boxed, Items};
 
 /// A name as it is written. Names are compared with their ASCII letters raised.
 #[derive(Drop)]
@@ -79,7 +79,7 @@ pub enum Expr {
 pub struct Argument {
     pub node: Node,
     pub name: Option<Identifier>,
-    pub value: Expr,
+    pub value: Boxed<Expr>,
 }
 
 /// A variable or a part of one: `root { part }`.

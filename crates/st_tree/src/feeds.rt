@@ -3,8 +3,8 @@
 ghost use Rattle.std.specs.Prelude.{◌≡◌, IfOk};
 ghost use Rattle.st_tree.specs.Feeds.{feeds_from};
 
-use sqlite_items::Items;
 use std::alloc::{AllocError, Global};
+use tree_items::Items;
 
 /// The places of the line feeds of a text, in bytes from its start.
 pub fn feeds_of(alloc: Global, text: &[u8]) -> Result<Items<usize>, AllocError>

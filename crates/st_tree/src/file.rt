@@ -1,11 +1,12 @@
 // Units and files.
 
+use crate::chart::Sfc;
 use crate::declaration::{Decl, Init, Keep, Section, Spec, TypeName};
 use crate::expression::{Expr, Identifier};
 use crate::node::Node;
 use crate::statement::Stmt;
-use sqlite_items::Items;
 use station_ports::texts::Name;
+use tree_items::{Boxed, Items};
 
 /// A unit: a function, a function block or a program.
 #[derive(Drop)]
@@ -14,7 +15,14 @@ pub struct Unit {
     pub kind: UnitKind,
     pub name: Identifier,
     pub sections: Items<Section>,
-    pub body: Items<Stmt>,
+    pub body: Body,
+}
+
+/// What a unit does: `sfc | statements`
+#[derive(Drop)]
+pub enum Body {
+    Statements(Items<Stmt>),
+    Chart(Sfc),
 }
 
 /// What a unit is.
@@ -108,7 +116,7 @@ pub struct Task {
 pub struct Parameter {
     pub node: Node,
     pub name: Identifier,
-    pub value: Expr,
+    pub value: Boxed<Expr>,
 }
 
 /// `PROGRAM name [ WITH task ] ":" type ";"`

@@ -1,6 +1,7 @@
 //! Trees of source texts, and the code of tasks, as plain data.
 #![tactic(auto)]
 
+mod chart;
 mod code;
 mod declaration;
 mod expression;
@@ -11,6 +12,7 @@ mod node;
 mod plan;
 mod statement;
 
+pub use chart::{Action, Association, Sfc, SfcPart, Step, StepNames, Transition};
 pub use code::{Cell, CellInfo, Code, Component, Number, Operation, Operator, TaskCode};
 pub use declaration::{
     Decl, FieldInit, Init, Item, Keep, Range, Section, SectionKind, Spec, TypeName,
@@ -20,10 +22,10 @@ pub use expression::{
 };
 pub use feeds::feeds_of;
 pub use file::{
-    Comment, Config, Fields, FilePart, Globals, Parameter, ProgramLine, Resource, Shape,
+    Body, Comment, Config, Fields, FilePart, Globals, Parameter, ProgramLine, Resource, Shape,
     SourceTree, Task, Tasks, TypeDecl, Types, Unit, UnitKind,
 };
 pub use hit::Hit;
 pub use node::{Node, NodeNo, Site};
 pub use plan::PlanRefusal;
-pub use statement::{Branch, Case, Label, Point, Stmt, StmtArgument};
+pub use statement::{Branch, Case, Counter, Label, Point, Stmt, StmtArgument};

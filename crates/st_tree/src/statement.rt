@@ -2,15 +2,15 @@
 
 use crate::expression::{Expr, Identifier, Path};
 use crate::node::Node;
-use sqlite_items::Items;
 use station_ports::texts::Name;
+use tree_items::{Boxed, Items};
 
 /// A statement, up to the byte after its last token. Empty statements aren't kept.
 #[cycle(statement)]
 #[derive(Drop)]
 pub enum Stmt {
     /// `target := value;`
-    Assign(Node, Path, Expr),
+    Assign(Node, Path, Boxed<Expr>),
     /// The call of an instance: `name(arguments);`
     Call(Node, Identifier, Items<StmtArgument>),
     Return(Node),
@@ -19,20 +19,29 @@ pub enum Stmt {
     /// The branches IF and ELSIF with their conditions, and what follows ELSE, if it is there.
     If(Node, Items<Branch>, Option<Items<Stmt>>),
     /// The selector, the branches, and what follows ELSE, if it is there.
-    Case(Node, Expr, Items<Case>, Option<Items<Stmt>>),
-    /// The variable, the first value, the last one, the step if it is written, and the body.
-    For(Node, Identifier, Expr, Expr, Option<Expr>, Items<Stmt>),
-    While(Node, Expr, Items<Stmt>),
+    Case(Node, Boxed<Expr>, Items<Case>, Option<Items<Stmt>>),
+    /// How the variable counts, and the body.
+    For(Node, Boxed<Counter>, Items<Stmt>),
+    While(Node, Boxed<Expr>, Items<Stmt>),
     /// The body, and the condition behind UNTIL.
-    Repeat(Node, Items<Stmt>, Expr),
+    Repeat(Node, Items<Stmt>, Boxed<Expr>),
 }
 
 /// IF or ELSIF: the condition and its statements.
 #[cycle(statement)]
 #[derive(Drop)]
 pub struct Branch {
-    pub condition: Expr,
+    pub condition: Boxed<Expr>,
     pub body: Items<Stmt>,
+}
+
+/// How a FOR counts: `variable ":=" first TO last [ BY step ]`
+#[derive(Drop)]
+pub struct Counter {
+    pub variable: Identifier,
+    pub first: Boxed<Expr>,
+    pub last: Boxed<Expr>,
+    pub step: Option<Boxed<Expr>>,
 }
 
 /// A branch of a CASE: `labels : statements`.
@@ -68,7 +77,7 @@ pub enum Point {
 #[derive(Drop)]
 pub enum StmtArgument {
     /// `name := value`
-    Input(Node, Identifier, Expr),
+    Input(Node, Identifier, Boxed<Expr>),
     /// `name => target`
     Output(Node, Identifier, Path),
 }

@@ -7,7 +7,7 @@ ghost use Rattle.st_units.specs.Parse as spec;
 ghost use Rattle.st_units.specs.Nests.{Nests};
 
 use crate::type_names::{enumeration, plain_spec, ranges};
-use sqlite_items::{Boxed, Items};
+use tree_items::{Boxed, Items};
 use st_expr::node_at;
 use st_tree::{Node, Range, Spec};
 use std::alloc::{AllocError, Global};

@@ -6,7 +6,7 @@ ghost use Rattle.st_units.specs.Parse as spec;
 
 use crate::declarations::globals_list;
 use crate::type_names::expression;
-use sqlite_items::Items;
+use tree_items::Items;
 use st_expr::{identifier, node_at};
 use st_tree::{Config, Identifier, Parameter, ProgramLine, Resource, Task, Tasks};
 use std::alloc::Global;

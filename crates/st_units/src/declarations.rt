@@ -7,7 +7,7 @@ ghost use Rattle.st_units.specs.Parse as spec;
 use crate::array_specs::spec;
 use crate::initial_values::optional_init;
 use crate::type_names::names;
-use sqlite_items::Items;
+use tree_items::Items;
 use st_expr::{address, node_at};
 use st_tree::{Address, Decl, Globals, Keep, Section, SectionKind};
 use std::alloc::Global;

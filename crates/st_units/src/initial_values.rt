@@ -7,7 +7,7 @@ ghost use Rattle.st_units.specs.Parse as spec;
 ghost use Rattle.st_units.specs.Nests.{Nests};
 
 use crate::type_names::expression;
-use sqlite_items::Items;
+use tree_items::Items;
 use st_expr::{identifier, node_at, word};
 use st_tree::{FieldInit, Init, Item};
 use std::alloc::Global;

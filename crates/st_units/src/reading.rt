@@ -10,7 +10,7 @@ ghost use Rattle.st_units.specs.FileLaws as laws;
 
 use crate::units::{Body, file};
 use iec_tables::fault::FaultCode;
-use sqlite_items::Items;
+use tree_items::Items;
 use st_expr::statement_list;
 use st_lexer::{LexFault, tokens};
 use st_tree::{FilePart, Stmt};

@@ -8,7 +8,7 @@ ghost use Rattle.token_grammar.specs.declared.token.TokenKind.TheVariants.{Comme
 ghost use Rattle.st_units.specs.SourceTrees as spec;
 
 use crate::reading::{ParseFault, count_steps, parts_of};
-use sqlite_items::Items;
+use tree_items::Items;
 use st_expr::node_at;
 use st_lexer::tokens;
 use st_tree::{Comment, FilePart, SourceTree, feeds_of};

@@ -5,7 +5,7 @@ ghost use Rattle.token_grammar.specs.Input.{Reads, ReadsTo, view};
 ghost use Rattle.st_units.specs.Parse as spec;
 
 use iec_tables::elem::Elem;
-use sqlite_items::Items;
+use tree_items::Items;
 use st_expr::{expression_at, identifier, node_at};
 use st_tree::{Expr, Identifier, Range, Spec, TypeName};
 use std::alloc::Global;

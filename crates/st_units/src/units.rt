@@ -9,7 +9,7 @@ use crate::configurations::config;
 use crate::declarations::{globals, sections};
 use crate::structures::types;
 use crate::type_names::typename;
-use sqlite_items::Items;
+use tree_items::Items;
 use st_expr::{identifier, node_at};
 use st_tree::{FilePart, Stmt, Unit, UnitKind};
 use std::alloc::Global;

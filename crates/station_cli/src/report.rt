@@ -20,7 +20,7 @@ use first_form::{ParseFault, SourceTree, Stmt, first_form, tree_laws};
 use iec_tables::fault::FaultCode;
 use interval_domain::grid::Grid;
 use interval_domain::interval::Interval;
-use sqlite_items::Items;
+use tree_items::Items;
 use st_lexer::{LexFault, cut_laws, tokens};
 use st_tree::{CellInfo, Component, Hit, NodeNo, PlanRefusal};
 use st_units::{ParseFault as FileFault, file_laws, parse_parts};

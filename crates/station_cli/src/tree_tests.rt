@@ -2,7 +2,7 @@
 ghost use Rattle.std.specs.Prelude.{◌≡◌};
 
 use iec_tables::fault::FaultCode;
-use sqlite_items::Items;
+use tree_items::Items;
 use st_expr::{ParseFault as FrontFault, parse_expression, parse_statements};
 use st_lexer::{LexFault, tokens};
 use st_tree::{BinaryOperator, Expr, FilePart, SourceTree, Stmt, Unit};

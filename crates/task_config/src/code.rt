@@ -6,7 +6,7 @@ ghost use Rattle.task_config.specs.Written.{place_in, kept_value, written_cell, 
 
 use first_form::{Expr, Literal, Path, Stmt};
 use iec_tables::elem::Elem;
-use sqlite_items::Items;
+use tree_items::Items;
 use st_tree::{Cell, Code, Number, Operation, Site};
 use std::alloc::{AllocError, Global};
 use std::collections::BTreeMap;

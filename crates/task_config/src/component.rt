@@ -11,7 +11,7 @@ ghost use Rattle.task_config.specs.Written.{place_in, place_among, with_place, w
 
 use crate::code::{Cells, body_code, collect_literals};
 use first_form::{Decl, Identifier, Section, SourceTree, Spec, Unit};
-use sqlite_items::Items;
+use tree_items::Items;
 use st_tree::{CellInfo, Component, TaskCode};
 use station_ports::outside::NoMemory;
 use station_ports::texts::Name;

@@ -5,7 +5,7 @@ ghost use Rattle.std.specs.Prelude.{◌≡◌, IfOk};
 use crate::expression::rebuild_path;
 use crate::rebuild::Rebuild;
 use crate::same::Same;
-use sqlite_items::Items;
+use tree_items::Items;
 use st_tree::{
     Comment, Config, Decl, Expr, Fields, FilePart, Globals, Identifier, Init, Label, Path,
     ProgramLine, Range, Resource, Section, SourceTree, Spec, Stmt, StmtArgument, Task, TypeDecl,

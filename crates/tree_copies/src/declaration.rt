@@ -8,7 +8,7 @@ ghost use Rattle.tree_copies.specs.Declarations as spec;
 use crate::expression::{rebuild_expr, rebuild_identifier};
 use crate::passes::Passes;
 use crate::rebuild::{Rebuild, rebuild_items, rebuild_option};
-use sqlite_items::{Boxed, Items};
+use tree_items::{Boxed, Items};
 use st_tree::{Decl, FieldInit, Identifier, Init, Item, Range, Section, Spec, TypeName};
 use station_ports::outside::NoMemory;
 use std::alloc::Global;

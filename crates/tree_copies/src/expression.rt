@@ -6,7 +6,7 @@ ghost use Rattle.tree_copies.specs.Turns.{each, perhaps};
 ghost use Rattle.tree_copies.specs.Rebuilt as spec;
 
 use crate::passes::Passes;
-use sqlite_items::{Boxed, Items};
+use tree_items::{Boxed, Items};
 use st_tree::{Address, Argument, Expr, Identifier, Part, Path, Root};
 use station_ports::outside::NoMemory;
 use std::alloc::Global;

@@ -8,7 +8,7 @@ ghost use Rattle.tree_copies.specs.Nodes.{nodes_of_expr, bare_expr, nodes_of_par
 use crate::expression::rebuild_expr;
 use crate::numbers::Counting;
 use crate::rebuild::rebuild_items;
-use sqlite_items::Items;
+use tree_items::Items;
 use st_tree::{Expr, FilePart, Stmt};
 use station_ports::outside::NoMemory;
 use std::alloc::Global;

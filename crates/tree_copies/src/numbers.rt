@@ -5,7 +5,7 @@ ghost use Rattle.tree_copies.specs.Numbers as spec;
 
 use crate::passes::Passes;
 use crate::starts::Starts;
-use sqlite_items::Items;
+use tree_items::Items;
 use st_tree::{Node, NodeNo};
 use station_ports::outside::NoMemory;
 use std::alloc::Global;

@@ -3,7 +3,7 @@
 ghost use Rattle.std.specs.Prelude.{◌≡◌, [], ◌∷◌, IfOk, OnOk, reverse};
 ghost use Rattle.tree_copies.specs.Parts as spec;
 
-use sqlite_items::Items;
+use tree_items::Items;
 use st_tree::{Comment, FilePart, SourceTree};
 use station_ports::outside::NoMemory;
 use std::alloc::Global;

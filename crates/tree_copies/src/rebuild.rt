@@ -6,7 +6,7 @@ ghost use Rattle.tree_copies.specs.Turns.{Turn, each, perhaps};
 
 use crate::expression::{rebuild_address, rebuild_expr, rebuild_identifier};
 use crate::passes::Passes;
-use sqlite_items::Items;
+use tree_items::Items;
 use st_tree::{Address, Expr, Identifier};
 use station_ports::outside::NoMemory;
 use std::alloc::Global;

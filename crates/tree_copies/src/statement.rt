@@ -10,7 +10,7 @@ ghost use Rattle.tree_copies.specs.Statements as spec;
 use crate::expression::{rebuild_expr, rebuild_identifier, rebuild_path};
 use crate::passes::Passes;
 use crate::rebuild::{Rebuild, rebuild_items, rebuild_option};
-use sqlite_items::Items;
+use tree_items::Items;
 use st_tree::{Branch, Case, Expr, Identifier, Label, Node, Path, Point, Stmt, StmtArgument};
 use station_ports::outside::NoMemory;
 use std::alloc::Global;
