@@ -1,7 +1,7 @@
 -- The numbers and names of the faults for which a text is refused. Source: this profile.
 use Rattle.std.specs.Prelude.{ℕ, List, codes}
 use Rattle.iec_tables.specs.declared.fault.FaultCode.{FaultCode}
-use Rattle.iec_tables.specs.declared.fault.FaultCode.TheVariants.{NotUtf8, BadByte, OpenComment, BadNumber, BadName, Grammar, TooDeep, NotBuilt}
+use Rattle.iec_tables.specs.declared.fault.FaultCode.TheVariants.{NotUtf8, BadByte, OpenComment, BadNumber, BadName, Grammar, TooDeep}
 
 abbrev pub code_of : FaultCode → ℕ
 code_of NotUtf8 = 1
@@ -11,7 +11,6 @@ code_of BadNumber = 4
 code_of BadName = 5
 code_of Grammar = 6
 code_of TooDeep = 7
-code_of NotBuilt = 8
 
 abbrev pub name_of : FaultCode → List ℕ
 name_of NotUtf8 = codes "NotUtf8"
@@ -21,4 +20,3 @@ name_of BadNumber = codes "BadNumber"
 name_of BadName = codes "BadName"
 name_of Grammar = codes "Grammar"
 name_of TooDeep = codes "TooDeep"
-name_of NotBuilt = codes "NotBuilt"

@@ -18,8 +18,6 @@ pub enum FaultCode {
     Grammar,
     /// A token stands too deep.
     TooDeep,
-    /// A form of the profile that isn't built yet.
-    NotBuilt,
 }
 
 impl FaultCode {
@@ -37,7 +35,6 @@ impl FaultCode {
             FaultCode::BadName => 5,
             FaultCode::Grammar => 6,
             FaultCode::TooDeep => 7,
-            FaultCode::NotBuilt => 8,
         }
     }
 
@@ -53,7 +50,6 @@ impl FaultCode {
             FaultCode::BadName => "BadName",
             FaultCode::Grammar => "Grammar",
             FaultCode::TooDeep => "TooDeep",
-            FaultCode::NotBuilt => "NotBuilt",
         }
     }
 }

@@ -3,7 +3,7 @@ use Rattle.std.proofs.Common.{◌≡◌, ℕ, zero, suc, ◌+◌, ◌-◌, ◌<�
 use Rattle.std.specs.List.{list_all, prefix_len}
 use Rattle.std.proofs.lemmas.List.{length-append, length-drop, drop_more}
 use Rattle.iec_tables.specs.declared.fault.FaultCode.{FaultCode}
-use Rattle.iec_tables.specs.declared.fault.FaultCode.TheVariants.{NotUtf8, BadByte, OpenComment, BadNumber, BadName, Grammar, TooDeep, NotBuilt}
+use Rattle.iec_tables.specs.declared.fault.FaultCode.TheVariants.{NotUtf8, BadByte, OpenComment, BadNumber, BadName, Grammar, TooDeep}
 use Rattle.token_grammar.specs.declared.token.TokenKind.{TokenKind}
 use Rattle.token_grammar.specs.declared.token.Token.{Token}
 use Rattle.st_lexer.specs.declared.front.Found.{Found}
@@ -95,7 +95,6 @@ no_end k text more rest t e (stopped code f) = by code (subst (λ (x : List ℕ)
     by BadName x = t.no_fault.no_bad_name x
     by Grammar x = x
     by TooDeep x = x
-    by NotBuilt x = x
 
 -- ---- one cut
 

@@ -6,7 +6,7 @@ use Rattle.std.proofs.lemmas.Bool.Decides.{nat_tests}
 use Rattle.iec_tables.specs.Letters.{raised}
 use Rattle.iec_tables.specs.Words.{keyword_texts}
 use Rattle.iec_tables.specs.declared.fault.FaultCode.{FaultCode}
-use Rattle.iec_tables.specs.declared.fault.FaultCode.TheVariants.{NotUtf8, BadByte, OpenComment, BadNumber, BadName, Grammar, TooDeep, NotBuilt}
+use Rattle.iec_tables.specs.declared.fault.FaultCode.TheVariants.{NotUtf8, BadByte, OpenComment, BadNumber, BadName, Grammar, TooDeep}
 use Rattle.token_grammar.specs.declared.token.TokenKind.{TokenKind}
 use Rattle.st_lexer.specs.declared.bytes.Lead.{Lead}
 use Rattle.st_lexer.specs.declared.bytes.Lead.TheVariants as lead
@@ -188,7 +188,6 @@ fault_dark BadNumber (b ∷ bs) f = fault_dark_by b bs may_number refl (number_l
 fault_dark BadName (b ∷ bs) f = fault_dark_by b bs may_name refl (name_lead b bs f)
 fault_dark Grammar (b ∷ bs) f = absurd f
 fault_dark TooDeep (b ∷ bs) f = absurd f
-fault_dark NotBuilt (b ∷ bs) f = absurd f
 
 -- a fault stands at a byte
 pub fault_some : (code : FaultCode) → IsFaulty code [] → ⊥
@@ -213,7 +212,6 @@ fault_some BadName f = by f.word f.first f.bytes_are
     by (x ∷ w) h e = cc
 fault_some Grammar f = f
 fault_some TooDeep f = f
-fault_some NotBuilt f = f
 
 -- ---- one fault
 
@@ -268,7 +266,6 @@ pub one_fault : (c d : FaultCode) (b : ℕ) (bs : List ℕ) → IsFaulty c (b �
 one_fault NotUtf8 d b bs x y = absurd x
 one_fault Grammar d b bs x y = absurd x
 one_fault TooDeep d b bs x y = absurd x
-one_fault NotBuilt d b bs x y = absurd x
 one_fault BadByte NotUtf8 b bs x y = absurd y
 one_fault BadByte BadByte b bs x y = refl
 one_fault BadByte OpenComment b bs x y = absurd (x.no_fault.no_open_comment y)
@@ -276,7 +273,6 @@ one_fault BadByte BadNumber b bs x y = absurd (x.no_fault.no_bad_number y)
 one_fault BadByte BadName b bs x y = absurd (x.no_fault.no_bad_name y)
 one_fault BadByte Grammar b bs x y = absurd y
 one_fault BadByte TooDeep b bs x y = absurd y
-one_fault BadByte NotBuilt b bs x y = absurd y
 one_fault OpenComment NotUtf8 b bs x y = absurd y
 one_fault OpenComment BadByte b bs x y = absurd (y.no_fault.no_open_comment x)
 one_fault OpenComment OpenComment b bs x y = refl
@@ -284,7 +280,6 @@ one_fault OpenComment BadNumber b bs x y = absurd (open_no_number b bs x y)
 one_fault OpenComment BadName b bs x y = absurd (open_no_name b bs x y)
 one_fault OpenComment Grammar b bs x y = absurd y
 one_fault OpenComment TooDeep b bs x y = absurd y
-one_fault OpenComment NotBuilt b bs x y = absurd y
 one_fault BadNumber NotUtf8 b bs x y = absurd y
 one_fault BadNumber BadByte b bs x y = absurd (y.no_fault.no_bad_number x)
 one_fault BadNumber OpenComment b bs x y = absurd (open_no_number b bs y x)
@@ -292,7 +287,6 @@ one_fault BadNumber BadNumber b bs x y = refl
 one_fault BadNumber BadName b bs x y = absurd (name_no_number b bs y x)
 one_fault BadNumber Grammar b bs x y = absurd y
 one_fault BadNumber TooDeep b bs x y = absurd y
-one_fault BadNumber NotBuilt b bs x y = absurd y
 one_fault BadName NotUtf8 b bs x y = absurd y
 one_fault BadName BadByte b bs x y = absurd (y.no_fault.no_bad_name x)
 one_fault BadName OpenComment b bs x y = absurd (open_no_name b bs y x)
@@ -300,4 +294,3 @@ one_fault BadName BadNumber b bs x y = absurd (name_no_number b bs x y)
 one_fault BadName BadName b bs x y = refl
 one_fault BadName Grammar b bs x y = absurd y
 one_fault BadName TooDeep b bs x y = absurd y
-one_fault BadName NotBuilt b bs x y = absurd y

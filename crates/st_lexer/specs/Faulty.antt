@@ -3,7 +3,7 @@
 use Rattle.std.specs.Prelude.{◌≡◌, ℕ, Bool, true, false, ◌&&◌, nat_eq, List, [], ◌∷◌, ◌++◌, codes, None, not}
 use Rattle.std.specs.List.{list_all, Contains}
 use Rattle.iec_tables.specs.declared.fault.FaultCode.{FaultCode}
-use Rattle.iec_tables.specs.declared.fault.FaultCode.TheVariants.{NotUtf8, BadByte, OpenComment, BadNumber, BadName, Grammar, TooDeep, NotBuilt}
+use Rattle.iec_tables.specs.declared.fault.FaultCode.TheVariants.{NotUtf8, BadByte, OpenComment, BadNumber, BadName, Grammar, TooDeep}
 use Rattle.token_grammar.specs.declared.token.TokenKind.{TokenKind}
 use Rattle.st_lexer.specs.declared.comments.Style.{Style}
 use Rattle.st_lexer.specs.Bytes.{is_white, is_letter, is_digit, in_word, begins, is_spaced}
@@ -83,4 +83,3 @@ IsFaulty BadNumber bytes = IsBadNumber bytes
 IsFaulty BadName bytes = IsBadName bytes
 IsFaulty Grammar bytes = ⊥
 IsFaulty TooDeep bytes = ⊥
-IsFaulty NotBuilt bytes = ⊥

@@ -51,8 +51,7 @@ pub enum BinaryOperator {
     Modulo,
 }
 
-/// An expression. Binary operators group to the left. Parentheses round an expression leave no trace but in the bytes of the nodes
-/// around them.
+/// An expression. Binary operators group to the left.
 #[cycle(expression)]
 #[derive(Drop)]
 pub enum Expr {
@@ -67,6 +66,8 @@ pub enum Expr {
     Path(Path),
     /// `type#value`, the value of an enumeration.
     Value(Node, Identifier, Identifier),
+    /// `"(" expr ")"`, which means what the expression within means. It is no path.
+    Parenthesized(Node, Boxed<Expr>),
     Unary(Node, UnaryOperator, Boxed<Expr>),
     Binary(Node, BinaryOperator, Boxed<Expr>, Boxed<Expr>),
     /// The call of a function.

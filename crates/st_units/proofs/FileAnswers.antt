@@ -56,7 +56,6 @@ split ts rest fault.BadNumber h = absurd h
 split ts rest fault.BadName h = absurd h
 split ts rest fault.Grammar h = inl (refl, wrong_of ts rest h)
 split ts rest fault.TooDeep h = inr (refl, h)
-split ts rest fault.NotBuilt h = absurd h
 
 pub some_file : SomeFile
 some_file text tokens = by (some_answer exact_file refl 0 (words_of text tokens)) where
