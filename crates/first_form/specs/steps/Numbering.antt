@@ -1,4 +1,4 @@
--- Nodes that are numbered one after the other, up to a number: a step on the way from the code's counter to a numbered tree.
+-- Nodes that are numbered one after the other, up to a number.
 use Rattle.std.specs.Prelude.{◌≡◌, ℕ, ◌+◌, List, length}
 use Rattle.st_tree.specs.declared.node.Node.{Node}
 use Rattle.first_form.specs.Nodes.{CountsFrom}
