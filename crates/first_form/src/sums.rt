@@ -79,7 +79,7 @@ impl Former {
     {
         let left = Boxed::new(self.alloc, left)?;
         let right = Boxed::new(self.alloc, self.operand(declared, link.right)?)?;
-        Ok(Expr::Binary(link.node, link.operator, left, right))
+        Ok(binary(link.node, link.operator, left, right))
     }
 
     /// A number, or a declared name.
@@ -122,6 +122,12 @@ impl Former {
         }
         Ok(Path { node, root })
     }
+}
+
+fn binary(node: Node, operator: Operator, left: Boxed<Expr>, right: Boxed<Expr>) -> Expr
+    ensures { result ≡ Expr.Binary node operator left right }
+{
+    Expr::Binary(node, operator, left, right)
 }
 
 /// The operators that sums have.
