@@ -39,7 +39,6 @@ or_none false = refl
 pub knows_none : (known : Known) → knows known [] ≡ known
 knows_none known i q = or_none (known q) i
 
-
 -- ---- one after the other
 
 and_assoc : (a b c : Bool) → ((a && b) && c) ≡ (a && (b && c))

@@ -14,7 +14,6 @@
 use Rattle.std.specs.Prelude.{◌≡◌, ℕ, ◌-◌, ◌*◌, ◌+◌, ◌&&◌, Bool, true, false, not, nat_le, is_none, if◌then◌else◌, List, [], ◌∷◌, map, Option, Some, None, option_and_then}
 use Rattle.std.specs.List.{fold, list_all}
 use Rattle.iec_tables.specs.Letters.{raised}
-use Rattle.iec_tables.specs.declared.elem.Elem.{Elem}
 use Rattle.iec_tables.specs.declared.elem.Elem.TheVariants as elem
 use Rattle.st_tree.specs.declared.code.Operator.{Operator}
 use Rattle.st_tree.specs.declared.code.Operator.TheVariants.{Add, Subtract}
@@ -33,7 +32,6 @@ use Rattle.st_tree.specs.declared.expression.Root.TheVariants as root
 use Rattle.st_tree.specs.declared.expression.BinaryOperator.{BinaryOperator}
 use Rattle.st_tree.specs.declared.expression.BinaryOperator.TheVariants as operators
 use Rattle.st_tree.specs.declared.expression.Path as written_path
-use Rattle.st_tree.specs.declared.expression.Part.{Part}
 use Rattle.st_tree.specs.declared.expression.Expr as written
 use Rattle.st_tree.specs.declared.expression.Expr.TheVariants as source
 use Rattle.st_tree.specs.declared.expression.Expr.TheOpen.{Expr-F}
@@ -48,7 +46,6 @@ use Rattle.st_tree.specs.declared.file.Unit as written_unit
 use Rattle.st_tree.specs.declared.file.SourceTree as written_file
 use Rattle.first_form.specs.declared.tree.Identifier.{Identifier}
 use Rattle.first_form.specs.declared.tree.Path.{Path}
-use Rattle.first_form.specs.declared.tree.Literal.{Literal}
 use Rattle.first_form.specs.declared.tree.Expr.{Expr}
 use Rattle.first_form.specs.declared.tree.Expr.TheVariants as expr
 use Rattle.first_form.specs.declared.tree.Stmt.{Stmt}
@@ -113,10 +110,10 @@ number node negative digits =
 -- a number, or a declared name
 unfoldable pub operand : Known → written.Expr → Option Expr
 operand known x = elim (written.out-Expr x) [
-    | Expr-F.Number node negative digits ↦ number node negative digits
-    | Expr-F.Path p ↦ path known p >>= λ q. Some (expr.Variable q)
-    | _ ↦ None
-  ]
+  | Expr-F.Number node negative digits ↦ number node negative digits
+  | Expr-F.Path p ↦ path known p >>= λ q. Some (expr.Variable q)
+  | _ ↦ None
+]
 
 abbrev pub operator : BinaryOperator → Option Operator
 operator operators.Add = Some Add
@@ -186,9 +183,10 @@ is_program other = false
 
 -- a program whose statements use the names that it declares
 unfoldable pub unit_of : written_unit.Unit → Option SourceUnit
-unit_of u = sections u.sections >>= λ ss. body (has (declared_in ss)) u.body >>= λ stmts.
+unit_of u = sections u.sections >>= λ ss.
     if is_program u.kind && are_apart (declared_in ss)
-    then Some (record { node = bare_node u.node; name = identifier u.name; sections = ss; body = stmts })
+    then (body (has (declared_in ss)) u.body >>= λ stmts.
+    Some (record { node = bare_node u.node; name = identifier u.name; sections = ss; body = stmts }))
     else None
 
 abbrev pub one_of : {X : Type 0} → List X → Option X

@@ -17,10 +17,7 @@ use tree_items::Items;
 impl Former {
     /// One section, or none.
     #[tactic(auto, unfolding(crate::specs::FirstForm::sections))]
-    pub fn sections(
-        &mut self,
-        sources: &[st_tree::Section],
-    ) -> Result<Items<Section>, Refusal>
+    pub fn sections(&mut self, sources: &[st_tree::Section]) -> Result<Items<Section>, Refusal>
         ensures form { Gives (map bare_section) (form.sections sources.now) result }
         ensures numbers { IfOk result (λ ss. Counts self.old.next (flat_map section_nodes ss) self.new.next) }
     {

@@ -68,12 +68,7 @@ impl Former {
     }
 
     /// The sum of an operator whose left operand is made.
-    fn joined(
-        &mut self,
-        declared: &Declared,
-        link: Link<'_>,
-        left: Expr,
-    ) -> Result<Expr, Refusal>
+    fn joined(&mut self, declared: &Declared, link: Link<'_>, left: Expr) -> Result<Expr, Refusal>
         ensures form { Gives bare_expr (joined (known_in declared.now) link.entry (Some (bare_expr left))) result }
         ensures numbers { IfOk result (λ x. Counts (suc link.entry.node.number.0) (expr_nodes left) self.old.next → Counts link.entry.node.number.0 (expr_nodes x) self.new.next) }
     {

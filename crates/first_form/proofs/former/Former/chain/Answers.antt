@@ -1,6 +1,6 @@
-use Rattle.std.proofs.Common.{◌≡◌, Some, None, refl, sym, ap, ◌∙◌}
+use Rattle.std.proofs.Common.{refl, sym, ap, ◌∙◌}
 use Rattle.first_form.proofs.Chains.{no_sum, one_link, linked_more, sum_other}
-use Rattle.first_form.specs.FirstForm.{Known, sum}
+use Rattle.first_form.specs.FirstForm.{sum}
 use Rattle.first_form.specs.steps.Chains.{chained}
 use Rattle.first_form.proofs.former.Former.chain.Goals as goal
 

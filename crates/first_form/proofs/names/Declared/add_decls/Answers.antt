@@ -1,6 +1,6 @@
-use Rattle.std.proofs.Common.{◌≡◌, ◌+◌, [], ◌∷◌, ◌++◌, drop, Err, sym, ap, ◌∙◌, rules, arith}
+use Rattle.std.proofs.Common.{◌≡◌, ◌+◌, [], ◌++◌, drop, Err, sym, ap, ◌∙◌, rules, arith}
 use Rattle.std.proofs.lemmas.Grind.{common_steps}
-use Rattle.first_form.specs.Names.{Names, names_of, declared}
+use Rattle.first_form.specs.Names.{names_of, declared}
 use Rattle.first_form.specs.steps.Known.{known_in, Adds}
 use Rattle.first_form.proofs.Known.{adding_more, adding_told, adding_known, adds_refused}
 use Rattle.first_form.proofs.Made.{at_item, at_end}
@@ -29,6 +29,7 @@ loop-decl-preserved c =
 pub returns : goal.returns
 returns c =
     let decls = c.args.decls.now in
-    let none : declared (drop c.loop-decl.decl-index decls) ≡ [] = ap declared (at_end decls c.loop-decl.decl-index c.loop-decl-test.false) in
-    (adding_told (known_in c.args.self.now) (known_in c.loop-decl.self) (declared decls) (declared (drop c.loop-decl.decl-index decls)) c.loop-decl.invariant none,
-      adding_known (known_in c.args.self.now) (known_in c.loop-decl.self) (declared decls) (declared (drop c.loop-decl.decl-index decls)) c.loop-decl.invariant none)
+    let none : declared (drop c.loop-decl.decl-index decls) ≡ [] = ap declared (at_end decls c.loop-decl.decl-index c.loop-decl-test.false) in (
+      adding_told (known_in c.args.self.now) (known_in c.loop-decl.self) (declared decls) (declared (drop c.loop-decl.decl-index decls)) c.loop-decl.invariant none,
+      adding_known (known_in c.args.self.now) (known_in c.loop-decl.self) (declared decls) (declared (drop c.loop-decl.decl-index decls)) c.loop-decl.invariant none,
+    )

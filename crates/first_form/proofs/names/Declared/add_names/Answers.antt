@@ -1,5 +1,5 @@
-use Rattle.std.proofs.Common.{◌≡◌, ◌+◌, [], ◌∷◌, ◌++◌, drop, Err, sym, ap, ◌∙◌, arith}
-use Rattle.first_form.specs.Names.{Names, names_of}
+use Rattle.std.proofs.Common.{◌≡◌, ◌+◌, [], ◌∷◌, ◌++◌, drop, sym, ap, ◌∙◌}
+use Rattle.first_form.specs.Names.{names_of}
 use Rattle.first_form.specs.steps.Known.{known_in}
 use Rattle.first_form.proofs.Known.{adding_more, adding_told, adding_known}
 use Rattle.first_form.proofs.Made.{at_item, at_end}
@@ -17,6 +17,7 @@ loop-identifier-preserved c =
 pub returns : goal.returns
 returns c =
     let names = c.args.names.now in
-    let none : names_of (drop c.loop-identifier.identifier-index names) ≡ [] = ap names_of (at_end names c.loop-identifier.identifier-index c.loop-identifier-test.false) in
-    (adding_told (known_in c.args.self.now) (known_in c.loop-identifier.self) (names_of names) (names_of (drop c.loop-identifier.identifier-index names)) c.loop-identifier.invariant none,
-      adding_known (known_in c.args.self.now) (known_in c.loop-identifier.self) (names_of names) (names_of (drop c.loop-identifier.identifier-index names)) c.loop-identifier.invariant none)
+    let none : names_of (drop c.loop-identifier.identifier-index names) ≡ [] = ap names_of (at_end names c.loop-identifier.identifier-index c.loop-identifier-test.false) in (
+      adding_told (known_in c.args.self.now) (known_in c.loop-identifier.self) (names_of names) (names_of (drop c.loop-identifier.identifier-index names)) c.loop-identifier.invariant none,
+      adding_known (known_in c.args.self.now) (known_in c.loop-identifier.self) (names_of names) (names_of (drop c.loop-identifier.identifier-index names)) c.loop-identifier.invariant none,
+    )

@@ -1,6 +1,6 @@
-use Rattle.std.proofs.Common.{◌≡◌, ◌+◌, [], ◌∷◌, ◌++◌, drop, Err, sym, ap, ◌∙◌, rules, arith}
+use Rattle.std.proofs.Common.{◌≡◌, ◌+◌, [], ◌++◌, drop, Err, sym, ap, ◌∙◌, rules, arith}
 use Rattle.std.proofs.lemmas.Grind.{common_steps}
-use Rattle.first_form.specs.Names.{Names, declared, declared_in}
+use Rattle.first_form.specs.Names.{declared, declared_in}
 use Rattle.first_form.specs.steps.Known.{known_in, none, Declares}
 use Rattle.first_form.proofs.Known.{adding_more, adding_told, adding_known, declares_refused, new_from_none}
 use Rattle.first_form.proofs.Made.{at_item, at_end}
@@ -29,6 +29,7 @@ loop-section-preserved c =
 pub returns : goal.returns
 returns c =
     let sections = c.args.sections.now in
-    let done : declared_in (drop c.loop-section.section-index sections) ≡ [] = ap declared_in (at_end sections c.loop-section.section-index c.loop-section-test.false) in
-    (sym (new_from_none (declared_in sections)) ∙ adding_told none (known_in c.loop-section.declared) (declared_in sections) (declared_in (drop c.loop-section.section-index sections)) c.loop-section.invariant done,
-      adding_known none (known_in c.loop-section.declared) (declared_in sections) (declared_in (drop c.loop-section.section-index sections)) c.loop-section.invariant done)
+    let done : declared_in (drop c.loop-section.section-index sections) ≡ [] = ap declared_in (at_end sections c.loop-section.section-index c.loop-section-test.false) in (
+      sym (new_from_none (declared_in sections)) ∙ adding_told none (known_in c.loop-section.declared) (declared_in sections) (declared_in (drop c.loop-section.section-index sections)) c.loop-section.invariant done,
+      adding_known none (known_in c.loop-section.declared) (declared_in sections) (declared_in (drop c.loop-section.section-index sections)) c.loop-section.invariant done,
+    )
