@@ -1,4 +1,5 @@
--- That parts of numbered nodes are numbered: Parts. That the numbers determine a tree: OneTree. The steps of the code: Counting, Known, Made, Chains,
+-- That parts of numbered nodes are numbered: Parts. That the numbers determine a tree: OneTree. The
+-- steps of the code: Counting, Known, Made, Chains,
 -- Digits, Units. What holds of the form: Sound.
 pub mod Parts
 pub mod OneTree

@@ -1,16 +1,18 @@
--- The first form: files of one program of INT variables with assignments of sums. Source: this profile. Of a tree of the textual grammar the form
--- takes these parts:
+-- The first form: files of one program of INT variables with assignments of sums. Source: this
+-- profile. Of the trees of the textual grammar it has those with these parts:
 --
---     file        one PROGRAM, and no types, globals or configurations
---     program     one section at most, and statements
---     section     VAR, without CONSTANT, RETAIN or NON_RETAIN
---     declaration names of the type INT, without an address, a range or an initial value; no name is declared twice
---     statement   an assignment of a sum to a declared name
---     sum         operands joined by + and -, grouped to the left
---     operand     a declared name, or decimal digits of a value up to 32767, a minus directly before them taken in
+--     file         one PROGRAM, and no types, globals or configurations
+--     program      one section at most, and statements
+--     section      VAR, without CONSTANT, RETAIN or NON_RETAIN
+--     declaration  names of the type INT, without an address, a range or an initial value; no name
+--                  is declared twice
+--     statement    an assignment of a sum to a declared name
+--     sum          operands joined by + and -, grouped to the left
+--     operand      a declared name, or decimal digits of a value up to 32767, a minus directly
+--                  before them taken in
 --
--- A sum in parentheses is another form. Names are kept with their ASCII letters raised, places as they are. The code numbers the nodes as it goes
--- from part to part, and goes down a sum by a loop.
+-- A sum in parentheses is another form. Names are kept with their ASCII letters raised, places as
+-- they are. The code numbers the nodes as it goes from part to part, and goes down a sum by a loop.
 use Rattle.std.specs.Prelude.{◌≡◌, ℕ, ◌-◌, ◌*◌, ◌+◌, ◌&&◌, Bool, true, false, not, nat_le, is_none, if◌then◌else◌, List, [], ◌∷◌, map, Option, Some, None, option_and_then}
 use Rattle.std.specs.List.{fold, list_all}
 use Rattle.iec_tables.specs.Letters.{raised}
@@ -67,10 +69,17 @@ infixl 10 ◌>>=◌
 abbrev pub ◌>>=◌ : {X Y : Type 0} → Option X → (X → Option Y) → Option Y
 o >>= f = option_and_then f o
 
+-- a value, where the test holds
+abbrev pub when : {X : Type 0} → Bool → X → Option X
+when test x = if test then Some x else None
+
 -- what each of them is, where each is something
 abbrev pub each : {X Y : Type 0} → (X → Option Y) → List X → Option (List Y)
 each f [] = Some []
-each f (x ∷ xs) = f x >>= λ y. each f xs >>= λ ys. Some (y ∷ ys)
+each f (x ∷ xs) = do
+  y ← f x
+  ys ← each f xs
+  Some (y ∷ ys)
 
 abbrev pub is_empty : {X : Type 0} → List X → Bool
 is_empty [] = true
@@ -87,8 +96,9 @@ named (root.Address a) = None
 
 -- a declared name without parts
 unfoldable pub path : Known → written_path.Path → Option Path
-path known p = named p.root >>= λ i.
-    if is_empty p.parts && known i.name then Some (record { node = bare_node p.node; root = i }) else None
+path known p = do
+  i ← named p.root
+  when (is_empty p.parts && known i.name) (record { node = bare_node p.node; root = i })
 
 abbrev pub is_decimal : ℕ → Bool
 is_decimal byte = nat_le 48 byte && nat_le byte 57
@@ -105,7 +115,8 @@ is_short digits = list_all is_decimal digits && nat_le (number_of digits) 32767
 
 abbrev pub number : Node → Bool → List ℕ → Option Expr
 number node negative digits =
-    if is_short digits then Some (expr.Number (bare_node node) (record { negative = negative; size = number_of digits })) else None
+    when (is_short digits)
+    (expr.Number (bare_node node) (record { negative = negative; size = number_of digits }))
 
 -- a number, or a declared name
 unfoldable pub operand : Known → written.Expr → Option Expr
@@ -122,15 +133,21 @@ operator other = None
 
 -- operands joined by + and -, grouped to the left
 unfoldable pub sum : Known → written.Expr → Option Expr
-sum known (source.Binary' node o l (written.more_of-Expr left written.end_of-Expr) r (written.more_of-Expr right written.end_of-Expr)) =
-    operator o >>= λ op. sum known left >>= λ x. operand known right >>= λ y. Some (expr.Binary (bare_node node) op x y)
+sum known (source.Binary' node o l (written.more_of-Expr left written.end_of-Expr)
+    r (written.more_of-Expr right written.end_of-Expr)) = do
+      op ← operator o
+      x ← sum known left
+      y ← operand known right
+      Some (expr.Binary (bare_node node) op x y)
 sum known other = operand known other
 
 -- ---- statements
 
 unfoldable pub stmt : Known → written_stmt.Stmt → Option Stmt
-stmt known (statement.Assign node target value) =
-    path known target >>= λ p. sum known value >>= λ x. Some (Assign (bare_node node) p x)
+stmt known (statement.Assign node target value) = do
+  p ← path known target
+  x ← sum known value
+  Some (Assign (bare_node node) p x)
 stmt known other = None
 
 abbrev pub body : Known → Body → Option (List Stmt)
@@ -145,15 +162,16 @@ is_int other = false
 
 -- INT
 unfoldable pub spec : typed.Spec → Option Spec
-spec (type.«Type» node name None) = if is_int name then Some (record { node = bare_node node; elem = elem.Int }) else None
+spec (type.«Type» node name None) =
+    when (is_int name) (record { node = bare_node node; elem = elem.Int })
 spec other = None
 
 -- names and their type alone
 unfoldable pub decl : written_decl.Decl → Option Decl
-decl d = spec d.spec >>= λ s.
-    if is_none d.address && is_none d.init
-    then Some (record { node = bare_node d.node; names = map identifier d.names; spec = s })
-    else None
+decl d = do
+  s ← spec d.spec
+  when (is_none d.address && is_none d.init)
+      (record { node = bare_node d.node; names = map identifier d.names; spec = s })
 
 -- VAR, without a word behind it
 abbrev pub is_plain : SectionKind → Option Keep → Bool
@@ -161,8 +179,9 @@ is_plain Var None = true
 is_plain kind keep = false
 
 unfoldable pub section : written_section.Section → Option Section
-section s = each decl s.decls >>= λ ds.
-    if is_plain s.kind s.keep then Some (record { node = bare_node s.node; decls = ds }) else None
+section s = do
+  ds ← each decl s.decls
+  when (is_plain s.kind s.keep) (record { node = bare_node s.node; decls = ds })
 
 -- one section, or none
 unfoldable pub sections : List written_section.Section → Option (List Section)
@@ -181,13 +200,17 @@ abbrev pub is_program : UnitKind → Bool
 is_program Program = true
 is_program other = false
 
--- a program whose statements use the names that it declares
+-- the program with these sections, whose statements use the names that they declare
+abbrev pub of_sections : written_unit.Unit → List Section → Option SourceUnit
+of_sections u ss = do
+  stmts ← body (has (declared_in ss)) u.body
+  Some (record { node = bare_node u.node; name = identifier u.name; sections = ss; body = stmts })
+
+-- a program that declares each name once and uses none but these
 unfoldable pub unit_of : written_unit.Unit → Option SourceUnit
-unit_of u = sections u.sections >>= λ ss.
-    if is_program u.kind && are_apart (declared_in ss)
-    then (body (has (declared_in ss)) u.body >>= λ stmts.
-    Some (record { node = bare_node u.node; name = identifier u.name; sections = ss; body = stmts }))
-    else None
+unit_of u = do
+  ss ← sections u.sections
+  if is_program u.kind && are_apart (declared_in ss) then of_sections u ss else None
 
 abbrev pub one_of : {X : Type 0} → List X → Option X
 one_of (x ∷ []) = Some x
@@ -195,10 +218,13 @@ one_of other = None
 
 -- the one unit of a file without further parts
 unfoldable pub only_unit : written_file.SourceTree → Option written_unit.Unit
-only_unit file = if is_empty file.types && is_empty file.globals && is_empty file.config then one_of file.units else None
+only_unit file =
+    if is_empty file.types && is_empty file.globals && is_empty file.config
+    then one_of file.units
+    else None
 
--- The file is of the first form, and this is its tree: that of its one program with the nodes numbered anew, and with the places of its line feeds.
--- (What is made of the parts has no numbers.)
+-- The file is of the first form, and this is its tree: that of its one program, the nodes numbered
+-- anew, with the places of the file's line feeds. (What is made of the parts has no numbers.)
 pub record IsFirstForm (file : written_file.SourceTree) (tree : SourceTree) : Type 0 where
   pub unit : SourceUnit
   pub units : tree.units ≡ unit ∷ []

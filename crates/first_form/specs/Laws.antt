@@ -7,8 +7,10 @@ use Rattle.first_form.specs.FirstForm.{IsFirstForm}
 
 -- A file has one tree of the first form at most.
 abbrev pub OneForm : Type 0
-OneForm = (file : written_file.SourceTree) (tree other : SourceTree) → IsFirstForm file tree → IsFirstForm file other → tree ≡ other
+OneForm = (file : written_file.SourceTree) (tree other : SourceTree) → IsFirstForm file tree
+    → IsFirstForm file other → tree ≡ other
 
 -- The unit of such a tree names declared variables alone.
 abbrev pub SoundForm : Type 0
-SoundForm = (file : written_file.SourceTree) (tree : SourceTree) (is : IsFirstForm file tree) → UsesDeclared is.unit
+SoundForm = (file : written_file.SourceTree) (tree : SourceTree) (is : IsFirstForm file tree)
+    → UsesDeclared is.unit

@@ -14,10 +14,13 @@ use station_ports::outside::NoMemory;
 use std::alloc::Global;
 use tree_items::Items;
 
-/// The tree of a file of the first form, its nodes numbered anew from 0; none where the file is of another form. NoMemory where there is no
+/// The tree of a file of the first form, its nodes numbered anew from 0; none where the file is of
+/// another form. NoMemory where there is no
 /// memory, or no room for the numbers of 2^32 nodes.
 pub fn first_form(alloc: Global, file: &st_tree::SourceTree) -> Result<Option<SourceTree>, NoMemory>
-    ensures { IfOk result (λ found. MatchOption found ((tree : FormTree) → IsFirstForm file.now tree → ⊥) (IsFirstForm file.now)) }
+    ensures { IfOk result
+        (λ found. MatchOption found ((tree : FormTree) → IsFirstForm file.now tree → ⊥)
+        (IsFirstForm file.now)) }
 {
     match tree_of(alloc, file) {
         Ok(tree) => Ok(Some(tree)),

@@ -1,4 +1,5 @@
-// What trees of the form are made with: the number of the next node, and names with their letters raised.
+// What trees of the form are made with: the number of the next node, and names with their letters
+// raised.
 
 ghost use Rattle.std.specs.Prelude.{◌≡◌, ◌+◌, [], ◌∷◌, map, Some, IfOk, OnOk, IfErr};
 ghost use Rattle.iec_tables.specs.Letters.{raised};
@@ -23,7 +24,8 @@ pub(crate) struct Former {
 }
 
 impl Former {
-    /// The node with the next number. Where there are 2^32 nodes, which no text of the limit has, there is no room for it.
+    /// The node with the next number. Where there are 2^32 nodes, which no text of the limit has,
+    /// there is no room for it.
     pub fn node(&mut self, node: Node) -> Result<Node, Refusal>
         ensures same { IfOk result (λ made. bare_node made ≡ bare_node node) }
         ensures number { IfOk result (λ made. made.number.0 ≡ self.old.next) }

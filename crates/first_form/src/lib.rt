@@ -1,4 +1,5 @@
-//! The first form, the form of programs whose analysis is built: one program of INT variables, assignments and sums. Its trees, and how they
+//! The first form, the form of programs whose analysis is built: one program of INT variables,
+//! assignments and sums. Its trees, and how they
 //! are recognised among the trees of source files.
 #![tactic(auto)]
 

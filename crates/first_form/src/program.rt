@@ -53,7 +53,8 @@ impl Former {
         declared: &Declared,
         sources: &[st_tree::Stmt],
     ) -> Result<Items<Stmt>, Refusal>
-        ensures form { Gives (map bare_stmt) (form.each (form.stmt (known_in declared.now)) sources.now) result }
+        ensures form { Gives (map bare_stmt)
+            (form.each (form.stmt (known_in declared.now)) sources.now) result }
         ensures numbers { IfOk result (λ body. Counts self.old.next (flat_map stmt_nodes body) self.new.next) }
     {
         let mut body = Items::new(self.alloc);

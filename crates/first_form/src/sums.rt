@@ -69,8 +69,10 @@ impl Former {
 
     /// The sum of an operator whose left operand is made.
     fn joined(&mut self, declared: &Declared, link: Link<'_>, left: Expr) -> Result<Expr, Refusal>
-        ensures form { Gives bare_expr (joined (known_in declared.now) link.entry (Some (bare_expr left))) result }
-        ensures numbers { IfOk result (λ x. Counts (suc link.entry.node.number.0) (expr_nodes left) self.old.next → Counts link.entry.node.number.0 (expr_nodes x) self.new.next) }
+        ensures form { Gives bare_expr
+            (joined (known_in declared.now) link.entry (Some (bare_expr left))) result }
+        ensures numbers { IfOk result (λ x. Counts (suc link.entry.node.number.0) (expr_nodes left)
+            self.old.next → Counts link.entry.node.number.0 (expr_nodes x) self.new.next) }
     {
         let left = Boxed::new(self.alloc, left)?;
         let right = Boxed::new(self.alloc, self.operand(declared, link.right)?)?;

@@ -1,4 +1,5 @@
-// The tree of a source text, after the textual grammar of the standard. Each node holds its number and its place.
+// The tree of a source text, after the textual grammar of the standard. Each node holds its number
+// and its place.
 
 use iec_tables::elem::Elem;
 use st_tree::{Node, Operator};

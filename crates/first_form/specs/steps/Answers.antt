@@ -1,4 +1,5 @@
--- What a function answers that makes a part of a tree of the form: the part that the definitions give, up to its nodes' numbers, or that they give none.
+-- What a function answers that makes a part of a tree of the form: the part that the definitions
+-- give, up to its nodes' numbers, or that they give none.
 use Rattle.std.specs.Prelude.{◌≡◌, Option, Some, None, Result, Ok, Err}
 use Rattle.st_tree.specs.declared.file.SourceTree as written_file
 use Rattle.first_form.specs.declared.tree.SourceTree.{SourceTree}

@@ -8,7 +8,9 @@ returns-then-value-gt-MAX_NUMBER c =
     let value = c.digit.value * 10 + (c.in-Some.byte.now - 48) in
     let great : 32767 < value = omega arith in
     let is : is_decimal c.in-Some.byte.now ≡ true = cc in
-    let whole : c.digit.rest.now ≡ c.in-Some.byte.now ∷ c.in-Some.others.now = c.in-Some.ensures.cases.0 in
+    let whole : c.digit.rest.now ≡ c.in-Some.byte.now ∷ c.in-Some.others.now =
+    c.in-Some.ensures.cases.0 in
     let long : is_short c.args.digits.now ≡ false =
-    sym c.digit.invariant.told ∙ ap (short_from c.digit.value) whole ∙ one_digit c.digit.value c.in-Some.byte.now c.in-Some.others.now is ∙ too_great value c.in-Some.others.now great in
+    sym c.digit.invariant.told ∙ ap (short_from c.digit.value) whole ∙ one_digit c.digit.value
+    c.in-Some.byte.now c.in-Some.others.now is ∙ too_great value c.in-Some.others.now great in
     sym (ap (λ (b : Bool). cond b (Some (number_of c.args.digits.now)) None) long)

@@ -6,4 +6,6 @@ use Rattle.first_form.proofs.Made.{IsMade}
 use Rattle.first_form.proofs.former.Former.declarations.Given as goal
 
 abbrev pub invariant-loop-source : goal.invariant-loop-source
-invariant-loop-source l = IsMade decl bare_decl decl_nodes l.sources l.fn.self.next (drop l.source-index l.sources) l.decls l.self.next
+invariant-loop-source l =
+    IsMade decl bare_decl decl_nodes l.sources l.fn.self.next (drop l.source-index l.sources)
+    l.decls l.self.next

@@ -5,4 +5,5 @@ use Rattle.first_form.proofs.Known.{IsAdding}
 use Rattle.first_form.proofs.names.Declared.add_decls.Given as goal
 
 abbrev pub invariant-loop-decl : goal.invariant-loop-decl
-invariant-loop-decl l = IsAdding (known_in l.fn.self) (declared l.decls) (known_in l.self) (declared (drop l.decl-index l.decls))
+invariant-loop-decl l = IsAdding (known_in l.fn.self) (declared l.decls) (known_in l.self)
+    (declared (drop l.decl-index l.decls))

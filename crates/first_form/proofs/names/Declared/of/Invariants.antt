@@ -5,4 +5,6 @@ use Rattle.first_form.proofs.Known.{IsAdding}
 use Rattle.first_form.proofs.names.Declared.of.Given as goal
 
 abbrev pub invariant-loop-section : goal.invariant-loop-section
-invariant-loop-section l = IsAdding none (declared_in l.sections) (known_in l.declared) (declared_in (drop l.section-index l.sections))
+invariant-loop-section l =
+    IsAdding none (declared_in l.sections) (known_in l.declared)
+    (declared_in (drop l.section-index l.sections))
