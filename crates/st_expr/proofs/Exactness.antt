@@ -14,10 +14,10 @@ use Rattle.token_grammar.proofs.Forms.{Form, Body, Inner, body_carries, form_the
 use Rattle.st_tree.specs.declared.expression.Expr.{Expr}
 use Rattle.st_expr.specs.declared.rank.Rank.{Rank}
 use Rattle.st_expr.specs.declared.rank.Rank.TheVariants as rank
-use Rattle.st_expr.specs.Trees.{from_start, make_binary, make_inverted, make_path, rank_of, make_identifier, path_of, ended}
+use Rattle.st_expr.specs.Trees.{from_start, make_binary, make_inverted, make_path, rank_of, make_identifier, path_of, ended, make_parenthesized}
 use Rattle.st_tree.specs.declared.expression.Root.TheVariants as root
 use Rattle.st_expr.specs.Grammar as g
-use Rattle.st_expr.specs.Parse as p
+use Rattle.st_expr.specs.steps.Parse as p
 use Rattle.st_expr.proofs.Operators.{kinds_of, form_operators, sees_rank}
 use Rattle.st_expr.proofs.Arguments.{HasNames}
 use Rattle.st_expr.proofs.Leaves.{form_identifier, form_address, form_number, form_typed, form_time, form_truth}
@@ -59,7 +59,7 @@ form_whole n inner rule h starts level names =
 
 pub starts_other : (rule : Rule Expr) → Starts (g.other rule) (k.TypedNumber ∷ k.Duration ∷ k.True ∷ k.False ∷ k.OpenParenthesis ∷ k.Address ∷ k.Name ∷ [])
 starts_other rule = starts_or (form_typed {V = Body 0}).starts (starts_or (form_time {V = Body 0}).starts (starts_or (form_truth {V = Body 0} k.True _).starts (starts_or (form_truth {V = Body 0} k.False _).starts
-    (starts_or (starts_scoped (starts_bind (starts_token k.OpenParenthesis 1 1))) (starts_or (starts_bind (starts_node make_path (starts_bind (form_address {V = Body 0}).starts))) (starts_node ended (starts_bind (form_identifier {V = Body 0}).starts)))))))
+    (starts_or (starts_node make_parenthesized (starts_scoped (starts_bind (starts_token k.OpenParenthesis 1 1)))) (starts_or (starts_bind (starts_node make_path (starts_bind (form_address {V = Body 0}).starts))) (starts_node ended (starts_bind (form_identifier {V = Body 0}).starts)))))))
 
 starts_level : (rule : Rule Expr) (l : ℕ) → Starts (g.level rule l) firsts
 unfolding g.level

@@ -20,7 +20,7 @@ use Rattle.st_tree.specs.declared.expression.Part.{Part}
 use Rattle.st_tree.specs.declared.expression.Part.TheVariants as part
 use Rattle.st_expr.specs.declared.rank.Rank.{Rank}
 use Rattle.st_expr.specs.declared.rank.Rank.TheVariants as rank
-use Rattle.st_expr.specs.Trees.{Text, rank_of, Ending, ended, make_identifier, make_address, make_path, make_index, make_number, make_typed, make_time, make_truth, make_argument, make_inverted, make_binary, value_of, call_of, path_of, literal_of, negated_of, from_start}
+use Rattle.st_expr.specs.Trees.{Text, rank_of, Ending, ended, make_identifier, make_address, make_path, make_index, make_number, make_typed, make_time, make_truth, make_argument, make_inverted, make_parenthesized, make_binary, value_of, call_of, path_of, literal_of, negated_of, from_start}
 
 -- the bytes of a token
 abbrev pub word : TokenKind → Rule Text
@@ -143,7 +143,7 @@ module _ (inner : Rule Expr) where
 
   -- "(" expr ")"
   abbrev pub group : Rule Expr
-  group = scoped (opening k.OpenParenthesis >>= λ _. inner >>= λ x. token k.CloseParenthesis >>= λ _. give x)
+  group = node make_parenthesized (scoped (opening k.OpenParenthesis >>= λ _. inner >>= λ x. token k.CloseParenthesis >>= λ _. give x))
 
   -- primary, but for a number: typed | time | TRUE | FALSE | path | name "#" name | "(" expr ")" | name "(" arguments ")"
   abbrev pub other : Rule Expr

@@ -3,7 +3,7 @@
 ghost use Rattle.std.specs.Prelude.{◌≡◌};
 ghost use Rattle.token_grammar.specs.Input.{Reads, view};
 ghost use Rattle.st_tree.specs.Places as places;
-ghost use Rattle.st_expr.specs.Parse as spec;
+ghost use Rattle.st_expr.specs.steps.Parse as spec;
 
 use st_tree::{Address, Identifier, Node, NodeNo};
 use station_ports::texts::Name;
@@ -22,7 +22,7 @@ pub fn node_at(start: usize, end: usize) -> Node
 }
 
 /// The bytes of a token of this kind.
-#[tactic(auto, unfolding(crate::specs::Parse::word))]
+#[tactic(auto, unfolding(crate::specs::steps::Parse::word))]
 pub fn word(alloc: Global, cursor: &mut Cursor<'_>, kind: TokenKind) -> Result<Name, ParseError>
     ensures { Reads (spec.word kind (view cursor.old)) result (view cursor.new) }
 {
@@ -31,7 +31,7 @@ pub fn word(alloc: Global, cursor: &mut Cursor<'_>, kind: TokenKind) -> Result<N
 }
 
 /// A name.
-#[tactic(auto, unfolding(crate::specs::Parse::identifier))]
+#[tactic(auto, unfolding(crate::specs::steps::Parse::identifier))]
 pub fn identifier(alloc: Global, cursor: &mut Cursor<'_>) -> Result<Identifier, ParseError>
     ensures { Reads (spec.identifier (view cursor.old)) result (view cursor.new) }
 {
@@ -44,7 +44,7 @@ pub fn identifier(alloc: Global, cursor: &mut Cursor<'_>) -> Result<Identifier, 
 }
 
 /// An address.
-#[tactic(auto, unfolding(crate::specs::Parse::address))]
+#[tactic(auto, unfolding(crate::specs::steps::Parse::address))]
 pub fn address(alloc: Global, cursor: &mut Cursor<'_>) -> Result<Address, ParseError>
     ensures { Reads (spec.address (view cursor.old)) result (view cursor.new) }
 {

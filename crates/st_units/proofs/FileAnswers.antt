@@ -15,9 +15,9 @@ use Rattle.token_grammar.proofs.Starts.{sees_any}
 use Rattle.token_grammar.proofs.Whole.{one_spelled, not_deep, one_wrong, one_deep, not_both}
 use Rattle.st_lexer.specs.Placed.{IsIn}
 use Rattle.st_tree.specs.declared.file.FilePart.{FilePart}
-use Rattle.st_expr.specs.Statements.{statements as statements_rule}
-use Rattle.st_expr.specs.ParseStatements.{statements as statements_parser}
-use Rattle.st_expr.proofs.StatementExactness.{exact_statements, loose_statements, level_statements}
+use Rattle.st_statements.specs.Grammar.{statements as statements_rule}
+use Rattle.st_statements.specs.steps.Parse.{statements as statements_parser}
+use Rattle.st_statements.proofs.StatementExactness.{exact_statements, loose_statements, level_statements}
 use Rattle.st_units.specs.Parse as p
 use Rattle.st_units.specs.Answers.{IsBroken}
 use Rattle.st_units.specs.Files.{IsFile, IsFileFault, file, IsCause, Refuses, fault_of}

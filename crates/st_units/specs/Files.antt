@@ -12,7 +12,7 @@ use Rattle.token_grammar.specs.Grammar.{Rule, Spells, IsTooDeep}
 use Rattle.st_lexer.specs.Cut.{IsCut, IsFault}
 use Rattle.st_lexer.specs.declared.cut.LexFault.TheVariants as lex
 use Rattle.st_tree.specs.declared.file.FilePart.{FilePart}
-use Rattle.st_expr.specs.Statements.{statements}
+use Rattle.st_statements.specs.Grammar.{statements}
 use Rattle.st_units.specs.Grammar as grammar
 use Rattle.st_units.specs.Answers.{IsBroken}
 use Rattle.st_units.specs.declared.reading.ParseFault.{ParseFault}

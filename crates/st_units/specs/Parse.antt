@@ -43,7 +43,7 @@ use Rattle.st_tree.specs.declared.file.Parameter.{Parameter}
 use Rattle.st_tree.specs.declared.file.ProgramLine.{ProgramLine}
 use Rattle.st_tree.specs.declared.file.FilePart.{FilePart}
 use Rattle.st_tree.specs.declared.file.FilePart.TheVariants as part
-use Rattle.st_expr.specs.Parse.{word, identifier, address, nested}
+use Rattle.st_expr.specs.steps.Parse.{word, identifier, address, nested}
 use Rattle.st_units.specs.Trees.{make_elementary, make_range, make_type, make_enumeration, make_array, make_elements, make_structure, make_repeated, make_field_init, make_decl, make_section, make_globals, make_fields, make_struct, make_type_decl, make_types, make_parameter, make_task, make_line, tasks_of, make_resource, make_config, make_unit}
 
 -- ---- types

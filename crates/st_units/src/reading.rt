@@ -54,7 +54,7 @@ impl From<NoMemory> for ParseFault {
 struct Statements;
 
 impl Body for Statements {
-    ghost use Rattle.st_expr.specs.ParseStatements.{statements};
+    ghost use Rattle.st_statements.specs.steps.Parse.{statements};
 
     ghost parser = { statements };
 

@@ -1,0 +1,4 @@
+pub mod SimpleStatements
+pub mod LabelForms
+pub mod StatementExactness
+pub mod CaseBranches

@@ -1,0 +1,4 @@
+pub mod Trees
+pub mod Grammar
+pub mod CaseLaws
+pub mod steps

@@ -1,0 +1,3 @@
+pub mod Parse
+pub mod Nests
+pub mod Held
