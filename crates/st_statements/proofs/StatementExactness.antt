@@ -21,6 +21,7 @@ use Rattle.st_tree.specs.declared.statement.Label.{Label}
 use Rattle.st_expr.specs.Grammar.{expression as expression_rule}
 use Rattle.st_statements.specs.Trees.{branch_of, make_return, make_exit, make_continue, make_if, make_case, make_for, make_while, make_repeat, counter_of, Branches, labelled, closed, with_stmt, with_labels}
 use Rattle.st_statements.specs.Grammar as g
+use Rattle.st_expr.specs.steps.Parse as e
 use Rattle.st_statements.specs.steps.Parse as p
 use Rattle.st_expr.proofs.Leaves.{form_identifier, level_identifier}
 use Rattle.st_expr.proofs.Operators.{or_is, last_is}
@@ -94,7 +95,7 @@ exact_step = exact_optional {es = goes_on} k.By None (form_take {W = Shallow} k.
 level_step : IsLevel g.step
 level_step = level_or (level_then k.By (λ _. level_bind level_expression (λ x. level_give (Some x)))) (level_give None)
 
-exact_last_step : (s : Identifier × Expr) → Exact Shallow (λ i. and_then (p.expression i) (λ last. λ i. and_then (p.step i) (λ by. pure (counter_of s last by)))) (expression_rule >>= λ last. g.step >>= λ by. give (counter_of s last by)) (sees_any (k.By ∷ goes_on))
+exact_last_step : (s : Identifier × Expr) → Exact Shallow (λ i. and_then (e.expression i) (λ last. λ i. and_then (p.step i) (λ by. pure (counter_of s last by)))) (expression_rule >>= λ last. g.step >>= λ by. give (counter_of s last by)) (sees_any (k.By ∷ goes_on))
 exact_last_step s = bind {W = Shallow} {more1 = sees_any goes_on} exact_expression (λ last. bind_give (λ by. counter_of s last by) exact_step) (level_carries Shallow level_expression)
     (λ last. apart_optional k.By goes_on (starts_bind (starts_token k.By 0 0)) refl None (λ by. counter_of s last by))
 
@@ -118,7 +119,7 @@ module _ (n : ℕ) (inner : Parser Stmt) (rule : Rule Stmt) (h : Form (Inner n) 
   into : (d : ℕ) → Inner (suc n) d → d + 1 ≤ 256 → Inner n (d + 1)
   into d v le = (omega (arith, v.0), le)
 
-  form_value_expression : Form (Inner n) p.expression expression_rule firsts goes_on
+  form_value_expression : Form (Inner n) e.expression expression_rule firsts goes_on
   form_value_expression = form_narrow form_expression shallow
 
   form_item : (found : List Stmt) → Form (Inner n) (p.item inner found) (g.item rule found) statement_kinds []

@@ -8,12 +8,13 @@ use Rattle.st_tree.specs.declared.expression.Expr.{Expr}
 use Rattle.st_tree.specs.declared.statement.Stmt.{Stmt}
 use Rattle.st_tree.specs.declared.statement.Branch.{Branch}
 use Rattle.st_tree.specs.declared.statement.Case.{Case}
+use Rattle.st_tree.specs.declared.statement.Counter.{Counter}
 use Rattle.st_tree.specs.declared.statement.Label.{Label}
 use Rattle.st_tree.specs.declared.statement.Point.{Point}
 use Rattle.st_tree.specs.declared.statement.Point.TheVariants as point
 use Rattle.st_tree.specs.declared.statement.StmtArgument.{StmtArgument}
 use Rattle.st_expr.specs.Grammar.{word, opening, identifier, path, parts, located, expression}
-use Rattle.st_statements.specs.Trees.{path_from, ArgumentEnding, argument_ended, input_of, output_of, assign_from, call_from, make_assign, make_return, make_exit, make_continue, branch_of, make_if, make_case, make_for, Counter, counter_of, make_while, make_repeat, make_point_number, make_point_typed, point_value, single, range_to, Branches, labelled, closed, with_stmt, with_labels}
+use Rattle.st_statements.specs.Trees.{path_from, ArgumentEnding, argument_ended, input_of, output_of, assign_from, call_from, make_assign, make_return, make_exit, make_continue, branch_of, make_if, make_case, make_for, counter_of, make_while, make_repeat, make_point_number, make_point_typed, point_value, single, range_to, Branches, labelled, closed, with_stmt, with_labels}
 
 -- ---- statements that begin with a name
 

@@ -13,6 +13,7 @@ use Rattle.st_tree.specs.declared.statement.Stmt.{Stmt}
 use Rattle.st_tree.specs.declared.statement.Stmt.TheVariants as stmt
 use Rattle.st_tree.specs.declared.statement.Branch.{Branch}
 use Rattle.st_tree.specs.declared.statement.Case.{Case}
+use Rattle.st_tree.specs.declared.statement.Counter.{Counter}
 use Rattle.st_tree.specs.declared.statement.Label.{Label}
 use Rattle.st_tree.specs.declared.statement.Point.{Point}
 use Rattle.st_tree.specs.declared.statement.Point.TheVariants as point
@@ -82,17 +83,11 @@ abbrev pub make_case : ℕ → ℕ → Expr × List Case × Option (List Stmt) �
 make_case start end p = stmt.Case (node_at start end) p.0 p.1 p.2
 
 -- how a FOR counts
-pub record Counter : Type 0 where
-  pub name : Identifier
-  pub first : Expr
-  pub last : Expr
-  pub by : Option Expr
-
 abbrev pub counter_of : Identifier × Expr → Expr → Option Expr → Counter
-counter_of p last by = record { name = p.0; first = p.1; last = last; by = by }
+counter_of p last by = record { variable = p.0; first = p.1; last = last; step = by }
 
 abbrev pub make_for : ℕ → ℕ → Counter × List Stmt → Stmt
-make_for start end p = stmt.For (node_at start end) p.0.name p.0.first p.0.last p.0.by p.1
+make_for start end p = stmt.For (node_at start end) p.0 p.1
 
 abbrev pub make_while : ℕ → ℕ → Expr × List Stmt → Stmt
 make_while start end p = stmt.While (node_at start end) p.0 p.1

@@ -8,13 +8,13 @@ ghost use Rattle.st_statements.specs.steps.Held.{branches_of};
 ghost use Rattle.st_statements.specs.steps.Nests.{NestsStatements};
 
 use crate::labels::{labels, labels_behind, point_behind, value_point};
-use crate::names::{identifier, node_at};
-use crate::simple::{behind_name, expression};
+use crate::simple::behind_name;
 use crate::statements::{Block, sees_unnamed};
-use tree_items::Items;
+use st_expr::{expression, identifier, node_at};
 use st_tree::{Case, Identifier, Label, Stmt};
 use std::alloc::{AllocError, Global};
 use token_grammar::{Cursor, ParseError, TokenKind};
+use tree_items::Items;
 
 /// The branches that were read: those that are whole, and the last one.
 #[derive(Drop)]

@@ -5,11 +5,11 @@ ghost use Rattle.token_grammar.specs.Input.{Reads, ReadsTo, view};
 ghost use Rattle.st_statements.specs.steps.Parse as spec;
 ghost use Rattle.st_statements.specs.Trees as trees;
 
-use crate::names::{identifier, node_at, word};
-use tree_items::Items;
+use st_expr::{identifier, node_at, word};
 use st_tree::{Identifier, Label, Point};
 use std::alloc::Global;
 use token_grammar::{Cursor, ParseError, TokenKind};
+use tree_items::Items;
 
 fn start_of_point(point: &Point) -> usize
     ensures { result ≡ trees.start_of_point point.now }

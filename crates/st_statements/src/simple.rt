@@ -2,16 +2,14 @@
 
 ghost use Rattle.std.specs.Prelude.{◌≡◌};
 ghost use Rattle.token_grammar.specs.Input.{Reads, ReadsTo, view};
-ghost use Rattle.st_expr.specs.steps.Parse as expressions;
 ghost use Rattle.st_statements.specs.steps.Parse as spec;
 ghost use Rattle.st_statements.specs.Trees as trees;
 
-use crate::expressions::{Grammar, expression_at};
-use crate::names::{identifier, node_at};
-use tree_items::Items;
-use st_tree::{Expr, Identifier, Node, Part, Path, Root, Stmt, StmtArgument};
+use st_expr::{expression, identifier, located, node_at, parts, path};
+use st_tree::{Identifier, Node, Part, Path, Root, Stmt, StmtArgument};
 use std::alloc::Global;
 use token_grammar::{Cursor, ParseError, TokenKind};
+use tree_items::Items;
 
 /// The byte after a part.
 fn end_of_part(part: &Part) -> usize

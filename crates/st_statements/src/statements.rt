@@ -6,11 +6,12 @@ ghost use Rattle.token_grammar.specs.Input.{Reads, ReadsTo, view};
 ghost use Rattle.st_statements.specs.steps.Parse as spec;
 ghost use Rattle.st_statements.specs.steps.Nests.{NestsStatements};
 
-use crate::simple::{NEST, assign, continue_stmt, exit_stmt, named, return_stmt};
-use tree_items::Items;
+use crate::simple::{assign, continue_stmt, exit_stmt, named, return_stmt};
+use st_expr::NEST;
 use st_tree::Stmt;
 use std::alloc::Global;
 use token_grammar::{Cursor, ParseError, TokenKind};
+use tree_items::Items;
 
 /// What the rules are read with.
 #[derive(Clone, Copy)]

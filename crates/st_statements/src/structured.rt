@@ -1,31 +1,20 @@
 // Structured statements: IF, FOR, WHILE and REPEAT.
 
 ghost use Rattle.std.specs.Prelude.{◌≡◌};
-ghost use Rattle.token_grammar.specs.Input.{Reads, ReadsAs, ReadsTo, view};
-ghost use Rattle.st_statements.specs.steps.Held.{counter_in};
+ghost use Rattle.token_grammar.specs.Input.{Reads, ReadsTo, view};
 ghost use Rattle.st_statements.specs.steps.Parse as spec;
 ghost use Rattle.st_statements.specs.steps.Nests.{NestsStatements};
 
-use crate::names::{identifier, node_at};
-use crate::simple::expression;
 use crate::statements::Block;
-use tree_items::Items;
-use st_tree::{Branch, Expr, Identifier, Stmt};
+use st_expr::{expression, identifier, node_at};
+use st_tree::{Branch, Counter, Expr, Identifier, Stmt};
 use std::alloc::Global;
 use token_grammar::{Cursor, ParseError, TokenKind};
-
-/// How a FOR counts: its variable, the first value, the last one, and the step if it is written.
-#[derive(Drop)]
-struct Counter {
-    name: Identifier,
-    first: Expr,
-    last: Expr,
-    by: Option<Expr>,
-}
+use tree_items::{Boxed, Items};
 
 /// `[ BY expr ]`
 #[tactic(auto, unfolding(crate::specs::steps::Parse::step))]
-fn step(alloc: Global, cursor: &mut Cursor<'_>) -> Result<Option<Expr>, ParseError>
+fn step(alloc: Global, cursor: &mut Cursor<'_>) -> Result<Option<Boxed<Expr>>, ParseError>
     ensures { Reads (spec.step (view cursor.old)) result (view cursor.new) }
 {
     if cursor.sees(TokenKind::By) {
@@ -37,7 +26,7 @@ fn step(alloc: Global, cursor: &mut Cursor<'_>) -> Result<Option<Expr>, ParseErr
 
 /// `name ":=" expr`
 #[tactic(auto, unfolding(crate::specs::steps::Parse::start))]
-fn start(alloc: Global, cursor: &mut Cursor<'_>) -> Result<(Identifier, Expr), ParseError>
+fn start(alloc: Global, cursor: &mut Cursor<'_>) -> Result<(Identifier, Boxed<Expr>), ParseError>
     ensures { Reads (spec.start (view cursor.old)) result (view cursor.new) }
 {
     let name = identifier(alloc, cursor)?;
@@ -48,19 +37,20 @@ fn start(alloc: Global, cursor: &mut Cursor<'_>) -> Result<(Identifier, Expr), P
 
 /// `name ":=" expr TO expr [ BY expr ]`
 #[tactic(auto, unfolding(crate::specs::steps::Parse::counter))]
-fn counted_by(alloc: Global, cursor: &mut Cursor<'_>) -> Result<Counter, ParseError>
-    ensures { ReadsAs counter_in (spec.counter (view cursor.old)) result (view cursor.new) }
+fn counted_by(alloc: Global, cursor: &mut Cursor<'_>) -> Result<Boxed<Counter>, ParseError>
+    ensures { Reads (spec.counter (view cursor.old)) result (view cursor.new) }
 {
-    let (name, first) = start(alloc, cursor)?;
+    let (variable, first) = start(alloc, cursor)?;
     cursor.take(TokenKind::To)?;
     let last = expression(alloc, cursor)?;
-    let by = step(alloc, cursor)?;
-    Ok(Counter {
-        name,
+    let step = step(alloc, cursor)?;
+    let counter = Counter {
+        variable,
         first,
         last,
-        by,
-    })
+        step,
+    };
+    Ok(Boxed::new(alloc, counter)?)
 }
 
 impl<F: Fn(Global, &mut Cursor<'_>, usize) -> Result<Stmt, ParseError>> Block<F> {
@@ -138,13 +128,7 @@ impl<F: Fn(Global, &mut Cursor<'_>, usize) -> Result<Stmt, ParseError>> Block<F>
         let body = self.body(cursor)?;
         cursor.take(TokenKind::EndFor)?;
         cursor.depth = depth;
-        let Counter {
-            name,
-            first,
-            last,
-            by,
-        } = counter;
-        Ok(Stmt::For(node_at(start, cursor.last), name, first, last, by, body))
+        Ok(Stmt::For(node_at(start, cursor.last), counter, body))
     }
 
     /// `WHILE expr DO statements END_WHILE`
