@@ -1,6 +1,6 @@
--- The grammar of statements. Source: the textual grammar of IEC 61131-3:2013, narrowed to this profile. A rule that begins with a name is written
--- with the name first and what may follow it behind. The code descends by a look at the next token.
-use Rattle.std.specs.Prelude.{ℕ, zero, suc, ◌+◌, true, false, List, [], ◌∷◌, ◌++◌, Option, Some, None}
+-- The grammar of statements. Source: the textual grammar of IEC 61131-3:2013, narrowed to this profile. The code descends by a look at the next
+-- token, and reads a leading name before it knows whether a call, an assignment or a label follows (steps/Reading).
+use Rattle.std.specs.Prelude.{ℕ, zero, suc, true, false, List, [], ◌∷◌, ◌++◌, Option, Some, None}
 use Rattle.token_grammar.specs.declared.token.TokenKind.TheVariants as k
 use Rattle.token_grammar.specs.Grammar.{Rule, ◌>>=◌, ◌or◌, give, token, scoped, node, many}
 use Rattle.st_tree.specs.declared.expression.Identifier.{Identifier}
@@ -13,10 +13,14 @@ use Rattle.st_tree.specs.declared.statement.Label.{Label}
 use Rattle.st_tree.specs.declared.statement.Point.{Point}
 use Rattle.st_tree.specs.declared.statement.Point.TheVariants as point
 use Rattle.st_tree.specs.declared.statement.StmtArgument.{StmtArgument}
-use Rattle.st_expr.specs.Grammar.{word, opening, identifier, path, parts, located, expression}
-use Rattle.st_statements.specs.Trees.{path_from, ArgumentEnding, argument_ended, input_of, output_of, assign_from, call_from, make_assign, make_return, make_exit, make_continue, branch_of, make_if, make_case, make_for, counter_of, make_while, make_repeat, make_point_number, make_point_typed, point_value, single, range_to, Branches, labelled, closed, with_stmt, with_labels}
+use Rattle.st_expr.specs.Grammar.{word, opening, identifier, path, expression}
+use Rattle.st_statements.specs.Trees.{ArgumentEnding, argument_ended, input_of, output_of, make_assign, make_call, make_return, make_exit, make_continue, branch_of, make_if, case_of, make_case, make_for, counter_of, make_while, make_repeat, make_point_number, make_point_typed, point_value, single, range_to}
 
--- ---- statements that begin with a name
+-- ---- assignments and calls
+
+-- path ":=" expr ";"
+abbrev pub assign : Rule Stmt
+assign = node make_assign (path expression >>= λ target. token k.Becomes >>= λ _. expression >>= λ x. token k.Semicolon >>= λ _. give (target, x))
 
 -- arg = name ":=" expr | name "=>" path
 abbrev pub input : Identifier → Rule ArgumentEnding
@@ -39,24 +43,8 @@ abbrev pub called : Rule (List StmtArgument)
 called = scoped (opening k.OpenParenthesis >>= λ _. arguments >>= λ found. token k.CloseParenthesis >>= λ _. give found)
 
 -- name "(" [ arg { "," arg } ] ")" ";"
-abbrev pub call_behind : Identifier → Rule Stmt
-call_behind name = called >>= λ found. token k.Semicolon >>= λ l. give (call_from name found l.end)
-
--- name { part } ":=" expr ";"
-abbrev pub assign_behind : Identifier → Rule Stmt
-assign_behind name = parts expression >>= λ ps. token k.Becomes >>= λ _. expression >>= λ x. token k.Semicolon >>= λ l. give (assign_from name (path_from name ps) x l.end)
-
-abbrev pub behind_name : Identifier → Rule Stmt
-behind_name name = call_behind name or assign_behind name
-
-abbrev pub named : Rule Stmt
-named = identifier >>= behind_name
-
--- ---- statements without others within
-
--- address { part } ":=" expr ";"
-abbrev pub assign : Rule Stmt
-assign = node make_assign (located expression >>= λ target. token k.Becomes >>= λ _. expression >>= λ x. token k.Semicolon >>= λ _. give (target, x))
+abbrev pub call : Rule Stmt
+call = node make_call (identifier >>= λ name. called >>= λ found. token k.Semicolon >>= λ _. give (name, found))
 
 -- RETURN ";" | EXIT ";" | CONTINUE ";"
 abbrev pub return_stmt : Rule Stmt
@@ -118,16 +106,9 @@ start = identifier >>= λ name. token k.Becomes >>= λ _. expression >>= λ firs
 abbrev pub counter : Rule Counter
 counter = start >>= λ s. token k.To >>= λ _. expression >>= λ last. step >>= λ by. give (counter_of s last by)
 
--- ---- lists of statements, over those that don't begin with a name
+-- ---- structured statements, over lists of statements
 
-module _ (inner : Rule Stmt) where
-  -- An empty statement isn't kept.
-  abbrev pub item : List Stmt → Rule (List Stmt)
-  item found = (token k.Semicolon >>= λ _. give found) or ((named >>= λ s. give (found ++ s ∷ [])) or (inner >>= λ s. give (found ++ s ∷ [])))
-
-  abbrev pub body : Rule (List Stmt)
-  body = many item []
-
+module _ (body : Rule (List Stmt)) where
   -- [ ELSE statements ]
   abbrev pub otherwise : Rule (Option (List Stmt))
   otherwise = (token k.Else >>= λ _. body >>= λ b. give (Some b)) or give None
@@ -159,30 +140,43 @@ module _ (inner : Rule Stmt) where
   abbrev pub repeat_stmt : Rule Stmt
   repeat_stmt = scoped (node make_repeat (opening k.Repeat >>= λ _. body >>= λ b. token k.Until >>= λ _. expression >>= λ c. token k.EndRepeat >>= λ _. give (b, c)))
 
-  -- What may follow the first labels of a CASE: an empty statement, labels, or a statement.
-  abbrev pub case_behind : Branches → Identifier → Rule Branches
-  case_behind b name = (point_behind name >>= λ first. labels_behind first >>= λ ls. give (with_labels b ls)) or (behind_name name >>= λ s. give (with_stmt b s))
+  -- labels = point [ ".." point ] { "," point [ ".." point ] } ":" statements
+  abbrev pub one_case : Rule Case
+  one_case = labels >>= λ ls. body >>= λ b. give (case_of ls b)
 
-  abbrev pub case_item : Branches → Rule Branches
-  case_item b = (token k.Semicolon >>= λ _. give b) or ((identifier >>= case_behind b)
-      or ((value_point >>= λ first. labels_behind first >>= λ ls. give (with_labels b ls)) or (inner >>= λ s. give (with_stmt b s))))
+  abbrev pub more_cases : List Case → Rule (List Case)
+  more_cases found = one_case >>= λ c. give (found ++ c ∷ [])
 
-  abbrev pub branches : Rule (List Case)
-  branches = labels >>= λ ls. many case_item (labelled ls) >>= λ b. give (closed b)
+  -- labels { labels }
+  abbrev pub cases : Rule (List Case)
+  cases = one_case >>= λ c. many more_cases (c ∷ [])
 
-  -- CASE expr OF labels { labels } [ ELSE statements ] END_CASE
+  -- CASE expr OF branches [ ELSE statements ] END_CASE
+  abbrev pub selection_of : Rule (List Case) → Rule Stmt
+  selection_of branches = scoped (node make_case (opening k.Case >>= λ _. expression >>= λ x. token k.Of >>= λ _. branches >>= λ found. otherwise >>= λ last. token k.EndCase >>= λ _. give (x, found, last)))
+
   abbrev pub selection : Rule Stmt
-  selection = scoped (node make_case (opening k.Case >>= λ _. expression >>= λ x. token k.Of >>= λ _. branches >>= λ found. otherwise >>= λ last. token k.EndCase >>= λ _. give (x, found, last)))
+  selection = selection_of cases
 
-  -- a statement that doesn't begin with a name
-  abbrev pub unnamed : Rule Stmt
-  unnamed = return_stmt or (exit_stmt or (continue_stmt or (choice or (selection or (counted or (while_stmt or (repeat_stmt or assign)))))))
+  -- a statement, but for an empty one
+  abbrev pub statement : Rule Stmt
+  statement = assign or (call or (return_stmt or (exit_stmt or (continue_stmt or (choice or (selection or (counted or (while_stmt or repeat_stmt))))))))
 
--- A statement that doesn't begin with a name, in which such statements nest less deep than the number.
+-- ---- lists of statements
+
+module _ (inner : Rule Stmt) where
+  -- An empty statement isn't kept.
+  abbrev pub item : List Stmt → Rule (List Stmt)
+  item found = (token k.Semicolon >>= λ _. give found) or (inner >>= λ s. give (found ++ s ∷ []))
+
+  abbrev pub body : Rule (List Stmt)
+  body = many item []
+
+-- A statement in which statements nest less deep than the number.
 unfoldable pub nested : ℕ → Rule Stmt
 nested zero d w x e = ⊥
-nested (suc n) d w x e = unnamed (nested n) d w x e
+nested (suc n) d w x e = statement (body (nested n)) d w x e
 
 -- Statements, to whatever depth.
 abbrev pub statements : Rule (List Stmt)
-statements d w x e = (n : ℕ) × body (nested (258 + n)) d w x e
+statements d w x e = (n : ℕ) × body (nested n) d w x e

@@ -1,4 +1,3 @@
 pub mod Trees
 pub mod Grammar
-pub mod CaseLaws
 pub mod steps

@@ -60,6 +60,9 @@ assign_from name target x end = stmt.Assign (node_to name end) target x
 abbrev pub call_from : Identifier → List StmtArgument → ℕ → Stmt
 call_from name found end = stmt.Call (node_to name end) name found
 
+abbrev pub make_call : ℕ → ℕ → Identifier × List StmtArgument → Stmt
+make_call start end p = stmt.Call (node_at start end) p.0 p.1
+
 abbrev pub make_assign : ℕ → ℕ → Path × Expr → Stmt
 make_assign start end p = stmt.Assign (node_at start end) p.0 p.1
 
@@ -78,6 +81,9 @@ branch_of c body = record { condition = c; body = body }
 
 abbrev pub make_if : ℕ → ℕ → List Branch × Option (List Stmt) → Stmt
 make_if start end p = stmt.If (node_at start end) p.0 p.1
+
+abbrev pub case_of : List Label → List Stmt → Case
+case_of ls body = record { labels = ls; body = body }
 
 abbrev pub make_case : ℕ → ℕ → Expr × List Case × Option (List Stmt) → Stmt
 make_case start end p = stmt.Case (node_at start end) p.0 p.1 p.2
