@@ -18,11 +18,11 @@ use Rattle.st_tree.specs.declared.file.FilePart.{FilePart}
 use Rattle.st_statements.specs.Grammar.{statements as statements_rule}
 use Rattle.st_statements.specs.steps.Parse.{statements as statements_parser}
 use Rattle.st_statements.proofs.StatementExactness.{exact_statements, loose_statements, level_statements}
-use Rattle.st_units.specs.Parse as p
+use Rattle.st_units.specs.steps.Parse as p
 use Rattle.st_units.specs.Answers.{IsBroken}
 use Rattle.st_units.specs.Files.{IsFile, IsFileFault, file, IsCause, Refuses, fault_of}
 use Rattle.st_units.specs.FileLaws.{SomeFile, OneFile, OneFileFault, NoneOfBoth, FaultIn}
-use Rattle.st_units.proofs.Lists.{Here}
+use Rattle.st_declarations.proofs.Lists.{Here}
 use Rattle.st_units.proofs.UnitForms.{part_kinds, exact_parts}
 use Rattle.st_units.proofs.FileForms.{IsAnswer, statement_kinds, file_of_statements, HasAnswer, some_answer}
 

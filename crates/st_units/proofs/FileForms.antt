@@ -17,9 +17,9 @@ use Rattle.st_tree.specs.declared.statement.Stmt.{Stmt}
 use Rattle.st_tree.specs.declared.file.FilePart.{FilePart}
 use Rattle.st_units.specs.Answers.{IsBroken}
 use Rattle.st_units.specs.Grammar as g
-use Rattle.st_units.specs.Parse as p
-use Rattle.st_units.proofs.Lists.{Here}
-use Rattle.st_units.proofs.DeclForms.{section_kinds}
+use Rattle.st_units.specs.steps.Parse as p
+use Rattle.st_declarations.proofs.Lists.{Here}
+use Rattle.st_declarations.proofs.DeclForms.{section_kinds}
 use Rattle.st_units.proofs.UnitForms.{part_kinds, exact_parts}
 
 -- where the next lexeme stops the rule, no word of it goes on so

@@ -16,13 +16,13 @@ use Rattle.st_tree.specs.declared.file.UnitKind.TheVariants as unit_kind
 use Rattle.st_tree.specs.declared.file.FilePart.TheVariants as part
 use Rattle.st_units.specs.Trees.{make_unit}
 use Rattle.st_units.specs.Grammar as g
-use Rattle.st_units.specs.Parse as p
+use Rattle.st_units.specs.steps.Parse as p
 use Rattle.st_expr.proofs.Leaves.{form_identifier, level_identifier}
 use Rattle.st_expr.proofs.Operators.{or_is, last_is}
-use Rattle.st_units.proofs.Lists.{Here, stays, exact_each, level_each, exact_last, starts_last, level_last}
-use Rattle.st_units.proofs.SpecForms.{form_typename, level_typename}
-use Rattle.st_units.proofs.DeclForms.{section_kinds, exact_sections, level_sections, form_globals, level_globals, form_types, level_types}
-use Rattle.st_units.proofs.ConfigForms.{form_config, level_config}
+use Rattle.st_declarations.proofs.Lists.{Here, stays, exact_each, level_each, exact_last, starts_last, level_last}
+use Rattle.st_declarations.proofs.SpecForms.{form_typename, level_typename}
+use Rattle.st_declarations.proofs.DeclForms.{section_kinds, exact_sections, level_sections, form_globals, level_globals, form_types, level_types}
+use Rattle.st_declarations.proofs.ConfigForms.{form_config, level_config}
 
 -- ---- parts without a body
 

@@ -3,7 +3,7 @@
 ghost use Rattle.std.specs.Prelude.{◌≡◌, List};
 ghost use Rattle.token_grammar.specs.Input.{Parser, Reads, ReadsTo, view};
 ghost use Rattle.st_tree.specs.declared.statement.Stmt as statements;
-ghost use Rattle.st_units.specs.Parse as spec;
+ghost use Rattle.st_units.specs.steps.Parse as spec;
 
 use crate::configurations::config;
 use crate::declarations::{globals, sections};
@@ -25,7 +25,7 @@ pub trait Body {
 }
 
 /// `FUNCTION name ":" typename { section } body END_FUNCTION`
-#[tactic(auto, unfolding(crate::specs::Parse::function))]
+#[tactic(auto, unfolding(crate::specs::steps::Parse::function))]
 fn function<B: Body>(alloc: Global, cursor: &mut Cursor<'_>, body: &B) -> Result<Unit, ParseError>
     ensures { Reads (spec.function B.parser (view cursor.old)) result (view cursor.new) }
 {
@@ -47,7 +47,7 @@ fn function<B: Body>(alloc: Global, cursor: &mut Cursor<'_>, body: &B) -> Result
 }
 
 /// `FUNCTION_BLOCK name { section } body END_FUNCTION_BLOCK`
-#[tactic(auto, unfolding(crate::specs::Parse::block, crate::specs::Parse::unit_as))]
+#[tactic(auto, unfolding(crate::specs::steps::Parse::block, crate::specs::steps::Parse::unit_as))]
 fn block<B: Body>(alloc: Global, cursor: &mut Cursor<'_>, body: &B) -> Result<Unit, ParseError>
     ensures { Reads (spec.block B.parser (view cursor.old)) result (view cursor.new) }
 {
@@ -67,7 +67,7 @@ fn block<B: Body>(alloc: Global, cursor: &mut Cursor<'_>, body: &B) -> Result<Un
 }
 
 /// `PROGRAM name { section } body END_PROGRAM`
-#[tactic(auto, unfolding(crate::specs::Parse::program, crate::specs::Parse::unit_as))]
+#[tactic(auto, unfolding(crate::specs::steps::Parse::program, crate::specs::steps::Parse::unit_as))]
 fn program<B: Body>(alloc: Global, cursor: &mut Cursor<'_>, body: &B) -> Result<Unit, ParseError>
     ensures { Reads (spec.program B.parser (view cursor.old)) result (view cursor.new) }
 {
@@ -87,7 +87,7 @@ fn program<B: Body>(alloc: Global, cursor: &mut Cursor<'_>, body: &B) -> Result<
 }
 
 /// `types | globals | config`
-#[tactic(auto, unfolding(crate::specs::Parse::other_part))]
+#[tactic(auto, unfolding(crate::specs::steps::Parse::other_part))]
 fn other_part(alloc: Global, cursor: &mut Cursor<'_>) -> Result<FilePart, ParseError>
     ensures { Reads (spec.other_part (view cursor.old)) result (view cursor.new) }
 {
@@ -101,7 +101,7 @@ fn other_part(alloc: Global, cursor: &mut Cursor<'_>) -> Result<FilePart, ParseE
 }
 
 /// `function | block | program | types | globals | config`
-#[tactic(auto, unfolding(crate::specs::Parse::file_part))]
+#[tactic(auto, unfolding(crate::specs::steps::Parse::file_part))]
 fn file_part<B: Body>(
     alloc: Global,
     cursor: &mut Cursor<'_>,
@@ -121,7 +121,7 @@ fn file_part<B: Body>(
 }
 
 /// Whether a part of a file comes next.
-#[tactic(auto, unfolding(crate::specs::Parse::sees_file_part))]
+#[tactic(auto, unfolding(crate::specs::steps::Parse::sees_file_part))]
 fn sees_file_part(cursor: &Cursor<'_>) -> bool
     ensures { result ≡ spec.sees_file_part (view cursor.now).rest }
 {
@@ -133,7 +133,7 @@ fn sees_file_part(cursor: &Cursor<'_>) -> bool
                         || cursor.sees(TokenKind::Configuration)))))
 }
 
-#[tactic(auto, unfolding(crate::specs::Parse::more_parts))]
+#[tactic(auto, unfolding(crate::specs::steps::Parse::more_parts))]
 fn more_parts<B: Body>(
     alloc: Global,
     cursor: &mut Cursor<'_>,
@@ -147,7 +147,7 @@ fn more_parts<B: Body>(
 }
 
 /// `{ function | block | program | types | globals | config }`
-#[tactic(auto, unfolding(crate::specs::Parse::parts))]
+#[tactic(auto, unfolding(crate::specs::steps::Parse::parts))]
 fn parts<B: Body>(
     alloc: Global,
     cursor: &mut Cursor<'_>,
@@ -166,7 +166,7 @@ fn parts<B: Body>(
 }
 
 /// Nothing is left.
-#[tactic(auto, unfolding(crate::specs::Parse::ended, crate::specs::Parse::ended_by))]
+#[tactic(auto, unfolding(crate::specs::steps::Parse::ended, crate::specs::steps::Parse::ended_by))]
 fn ended(cursor: &Cursor<'_>) -> Result<(), ParseError>
     ensures { Reads (spec.ended (view cursor.now)) result (view cursor.now) }
 {
@@ -177,7 +177,7 @@ fn ended(cursor: &Cursor<'_>) -> Result<(), ParseError>
 }
 
 /// The parts of a file, in the order of the text, to its end.
-#[tactic(auto, unfolding(crate::specs::Parse::file))]
+#[tactic(auto, unfolding(crate::specs::steps::Parse::file))]
 pub fn file<B: Body>(
     alloc: Global,
     cursor: &mut Cursor<'_>,

@@ -6,7 +6,7 @@ use Rattle.token_grammar.specs.Input.{view}
 use Rattle.token_grammar.specs.Kept.{words_of}
 use Rattle.token_grammar.proofs.Laws.{input}
 use Rattle.st_statements.specs.steps.Parse.{statements}
-use Rattle.st_units.specs.Parse as p
+use Rattle.st_units.specs.steps.Parse as p
 use Rattle.st_units.proofs.FileAnswers.{answered, refused}
 use Rattle.st_units.proofs.reading.parts_of.Goals as goal
 

@@ -1,6 +1,6 @@
 use Rattle.std.proofs.Common.{◌≡◌, ◌-◌}
 use Rattle.token_grammar.specs.Input.{view, loop}
-use Rattle.st_units.specs.Parse.{parts, more_parts, sees_file_part}
+use Rattle.st_units.specs.steps.Parse.{parts, more_parts, sees_file_part}
 use Rattle.st_units.proofs.units.parts.Given as goal
 
 abbrev pub invariant-loop-turn : goal.invariant-loop-turn

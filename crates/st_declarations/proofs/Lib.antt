@@ -1,0 +1,5 @@
+pub mod Lists
+pub mod SpecForms
+pub mod InitForms
+pub mod DeclForms
+pub mod ConfigForms
