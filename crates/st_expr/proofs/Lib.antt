@@ -6,3 +6,5 @@ pub mod Rules
 mod Nesting
 pub mod Exactness
 pub mod Numbers
+pub mod Lists
+pub mod NameLists
