@@ -14,7 +14,7 @@ use Rattle.st_declarations.specs.Grammar as g
 use Rattle.st_declarations.specs.steps.Parse as p
 use Rattle.st_expr.proofs.Leaves.{form_identifier, level_identifier}
 use Rattle.st_expr.proofs.Exactness.{goes_on, level_expression}
-use Rattle.st_declarations.proofs.Lists.{Here, one_kind, stays, into, exact_each, level_each, loose_each, exact_commas, exact_last, starts_last, level_last}
+use Rattle.st_expr.proofs.Lists.{Here, one_kind, stays, into, exact_each, level_each, loose_each, exact_commas, exact_last, starts_last, level_last}
 use Rattle.st_expr.proofs.Exactness.{form_expression}
 use Rattle.st_declarations.proofs.DeclForms.{exact_globals_list, level_globals_list}
 

@@ -21,9 +21,10 @@ use Rattle.st_declarations.specs.Grammar as g
 use Rattle.st_declarations.specs.steps.Parse as p
 use Rattle.st_expr.proofs.Leaves.{form_identifier, level_identifier, form_address, level_address}
 use Rattle.st_expr.proofs.Exactness.{goes_on}
+use Rattle.st_expr.proofs.NameLists.{form_names, level_names}
 use Rattle.st_expr.proofs.Operators.{or_is, last_is}
-use Rattle.st_declarations.proofs.Lists.{Here, one_kind, stays, exact_each, level_each, loose_each, exact_last, starts_last, level_last}
-use Rattle.st_declarations.proofs.SpecForms.{form_names, level_names, form_spec, level_spec, spec_kinds, spec_ends}
+use Rattle.st_expr.proofs.Lists.{Here, one_kind, stays, exact_each, level_each, loose_each, exact_last, starts_last, level_last}
+use Rattle.st_declarations.proofs.SpecForms.{form_spec, level_spec, spec_kinds, spec_ends}
 use Rattle.st_declarations.proofs.InitForms.{exact_optional_init, level_optional_init, loose_optional_init}
 
 -- ---- declarations

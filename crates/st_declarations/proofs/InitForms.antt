@@ -29,7 +29,8 @@ use Rattle.st_expr.specs.steps.Parse.{expression as read_expression}
 use Rattle.st_expr.proofs.Leaves.{form_word, level_word, form_identifier, level_identifier}
 use Rattle.st_expr.proofs.Exactness.{firsts, goes_on, form_expression, level_expression}
 use Rattle.st_expr.proofs.Numbers.{LacksTwo, lacks_first, lacks_or, lacks_bind, number_expression, three_bind, three_expression, number_alone, group_begins}
-use Rattle.st_declarations.proofs.Lists.{Here, stays, inward, deeper_in, exact_commas, exact_last, form_all}
+use Rattle.st_expr.proofs.Lists.{Here, stays, inward, deeper_in, exact_commas, exact_last}
+use Rattle.st_declarations.proofs.Nesting.{form_all, init_sub}
 
 abbrev pub init_kinds : List TokenKind
 init_kinds = k.OpenBracket ∷ k.OpenParenthesis ∷ firsts
@@ -278,10 +279,10 @@ step_init n m lt h = form_any_init n (p.init_within n) (g.init_within m) h (star
 -- an initial value, of any depth
 pub form_initial : Form Here p.initial g.initial init_kinds goes_on
 unfolding p.initial
-form_initial = form_all p.init_within g.init_within init_kinds goes_on level_init_within some_init step_init starts_init_within
+form_initial = form_all p.init_within g.init_within init_kinds goes_on level_init_within some_init step_init init_sub starts_init_within
 
 pub level_initial : IsLevel g.initial
-level_initial d w x e (n, l) = level_init_within (258 + n) d w x e l
+level_initial d w x e (n, l) = level_init_within n d w x e l
 
 -- ---- behind a spec
 

@@ -1,4 +1,4 @@
-pub mod Lists
+mod Nesting
 pub mod SpecForms
 pub mod InitForms
 pub mod DeclForms

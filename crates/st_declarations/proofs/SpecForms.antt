@@ -15,9 +15,11 @@ use Rattle.st_tree.specs.declared.declaration.Spec.{Spec}
 use Rattle.st_declarations.specs.Trees.{make_elementary, make_range, make_type, make_enumeration, make_array}
 use Rattle.st_declarations.specs.Grammar as g
 use Rattle.st_declarations.specs.steps.Parse as p
+use Rattle.st_expr.proofs.NameLists.{exact_names}
 use Rattle.st_expr.proofs.Leaves.{form_identifier, level_identifier}
 use Rattle.st_expr.proofs.Exactness.{firsts, goes_on, form_expression, level_expression}
-use Rattle.st_declarations.proofs.Lists.{Here, stays, into, inward, form_fewer, exact_commas, level_commas, exact_last, form_all}
+use Rattle.st_expr.proofs.Lists.{Here, stays, into, inward, form_fewer, exact_commas, exact_last}
+use Rattle.st_declarations.proofs.Nesting.{form_all, spec_sub}
 
 -- ---- names of types
 
@@ -68,20 +70,7 @@ form_typename = form_or k.Name (form_as type.Named form_identifier) form_element
 pub level_typename : IsLevel g.typename
 level_typename = level_or (level_bind level_identifier (λ i. level_give (type.Named i))) level_elementary
 
--- ---- names and ranges
-
-exact_names : (n : ℕ) → Exact (Inner n) p.names g.names (sees_any (k.Comma ∷ []))
-unfolding p.names p.more_names
-exact_names n = exact_commas n [] (form_identifier {V = Inner n}).exact refl level_identifier
-
-pub form_names : Form Here p.names g.names (k.Name ∷ []) (k.Comma ∷ [])
-form_names = record { exact = exact_names 257; starts = starts_bind (form_identifier {V = Here}).starts; opens = opens_names }
-  where
-    opens_names : Opens g.names (k.Name ∷ [])
-    opens_names = record { word = λ d t r e. let (at, w, x, m, l) = (form_identifier {V = Here}).opens.word d t r e in (at, w ++ [], x ∷ [], m, ((t, at) ∷ w, [], x, m, refl, l, (zero, (refl, refl, refl)))) }
-
-pub level_names : IsLevel g.names
-level_names = level_commas level_identifier
+-- ---- ranges
 
 pub form_range : Form Here p.range g.range firsts goes_on
 unfolding p.range
@@ -172,7 +161,7 @@ step_spec n m lt h = form_any n (p.spec_within n) (g.spec_within m) h
 -- a spec, of any depth
 pub form_spec : Form Here p.spec g.spec spec_kinds spec_ends
 unfolding p.spec
-form_spec = form_all p.spec_within g.spec_within spec_kinds spec_ends level_spec_within some_spec step_spec starts_spec_within
+form_spec = form_all p.spec_within g.spec_within spec_kinds spec_ends level_spec_within some_spec step_spec spec_sub starts_spec_within
 
 pub level_spec : IsLevel g.spec
-level_spec d w x e (n, l) = level_spec_within (258 + n) d w x e l
+level_spec d w x e (n, l) = level_spec_within n d w x e l

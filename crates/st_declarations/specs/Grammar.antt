@@ -1,6 +1,6 @@
 -- The grammar of declarations. Source: the textual grammar of IEC 61131-3:2013, narrowed to this profile. A rule with a part that may be
 -- left out is written as that part or nothing. The code descends by a look at the next token, or at the next two or three.
-use Rattle.std.specs.Prelude.{ℕ, zero, suc, ◌+◌, List, [], ◌∷◌, ◌++◌, Option, Some, None}
+use Rattle.std.specs.Prelude.{ℕ, zero, suc, List, [], ◌∷◌, ◌++◌, Option, Some, None}
 use Rattle.token_grammar.specs.declared.token.TokenKind.{TokenKind}
 use Rattle.token_grammar.specs.declared.token.TokenKind.TheVariants as k
 use Rattle.token_grammar.specs.Grammar.{Rule, ◌>>=◌, ◌or◌, give, token, scoped, node, many}
@@ -35,7 +35,7 @@ use Rattle.st_tree.specs.declared.file.Tasks.{Tasks}
 use Rattle.st_tree.specs.declared.file.Task.{Task}
 use Rattle.st_tree.specs.declared.file.Parameter.{Parameter}
 use Rattle.st_tree.specs.declared.file.ProgramLine.{ProgramLine}
-use Rattle.st_expr.specs.Grammar.{word, opening, identifier, address, expression}
+use Rattle.st_expr.specs.Grammar.{word, opening, identifier, address, names, expression}
 use Rattle.st_declarations.specs.Trees.{make_elementary, make_range, make_type, make_enumeration, make_array, make_elements, make_structure, make_repeated, make_field_init, make_decl, make_section, make_globals, make_fields, make_struct, make_type_decl, make_types, make_parameter, make_task, make_line, tasks_of, make_resource, make_config}
 
 -- ---- types
@@ -56,13 +56,6 @@ elementary = elem_as k.Bool e.Bool or (elem_as k.Byte e.Byte or (elem_as k.Word 
 -- typename = name | one of the 14 type names
 abbrev pub typename : Rule TypeName
 typename = (identifier >>= λ i. give (type.Named i)) or elementary
-
--- names = name { "," name }
-abbrev pub more_names : List Identifier → Rule (List Identifier)
-more_names names = token k.Comma >>= λ _. identifier >>= λ i. give (names ++ i ∷ [])
-
-abbrev pub names : Rule (List Identifier)
-names = identifier >>= λ i. many more_names (i ∷ [])
 
 -- range = expr ".." expr
 abbrev pub range : Rule Range
@@ -108,7 +101,7 @@ spec_within (suc n) d w x e = any_spec (spec_within n) d w x e
 
 -- a spec, in which specs nest to whatever depth
 abbrev pub spec : Rule Spec
-spec d w x e = (n : ℕ) × spec_within (258 + n) d w x e
+spec d w x e = (n : ℕ) × spec_within n d w x e
 
 -- ---- initial values
 
@@ -156,7 +149,7 @@ init_within (suc n) d w x e = any_init (init_within n) d w x e
 
 -- an initial value, in which initial values nest to whatever depth
 abbrev pub initial : Rule Init
-initial d w x e = (n : ℕ) × init_within (258 + n) d w x e
+initial d w x e = (n : ℕ) × init_within n d w x e
 
 -- ":=" init
 abbrev pub becomes : Rule (Option Init)

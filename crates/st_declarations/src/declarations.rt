@@ -6,9 +6,8 @@ ghost use Rattle.st_declarations.specs.steps.Parse as spec;
 
 use crate::array_specs::spec;
 use crate::initial_values::optional_init;
-use crate::type_names::names;
 use tree_items::Items;
-use st_expr::{address, node_at};
+use st_expr::{address, name_list, node_at};
 use st_tree::{Address, Decl, Globals, Keep, Section, SectionKind};
 use std::alloc::Global;
 use token_grammar::{Cursor, ParseError, TokenKind};
@@ -40,7 +39,7 @@ fn decl(alloc: Global, cursor: &mut Cursor<'_>) -> Result<Decl, ParseError>
     ensures { Reads (spec.decl (view cursor.old)) result (view cursor.new) }
 {
     let start = cursor.start();
-    let names = names(alloc, cursor)?;
+    let names = name_list(alloc, cursor)?;
     let address = optional_address(alloc, cursor)?;
     cursor.take(TokenKind::Colon)?;
     let spec = spec(alloc, cursor)?;

@@ -6,9 +6,8 @@ ghost use Rattle.st_declarations.specs.steps.Parse as spec;
 
 use crate::array_specs::spec;
 use crate::initial_values::optional_init;
-use crate::type_names::names;
 use tree_items::Items;
-use st_expr::{identifier, node_at};
+use st_expr::{identifier, name_list, node_at};
 use st_tree::{Fields, Shape, TypeDecl, Types};
 use std::alloc::Global;
 use token_grammar::{Cursor, ParseError, TokenKind};
@@ -19,7 +18,7 @@ fn fields(alloc: Global, cursor: &mut Cursor<'_>) -> Result<Fields, ParseError>
     ensures { Reads (spec.fields (view cursor.old)) result (view cursor.new) }
 {
     let start = cursor.start();
-    let names = names(alloc, cursor)?;
+    let names = name_list(alloc, cursor)?;
     cursor.take(TokenKind::Colon)?;
     let spec = spec(alloc, cursor)?;
     let init = optional_init(alloc, cursor)?;

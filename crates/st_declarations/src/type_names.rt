@@ -6,8 +6,8 @@ ghost use Rattle.st_declarations.specs.steps.Parse as spec;
 
 use iec_tables::elem::Elem;
 use tree_items::Items;
-use st_expr::{expression, identifier, node_at};
-use st_tree::{Identifier, Range, Spec, TypeName};
+use st_expr::{expression, identifier, name_list, node_at};
+use st_tree::{Range, Spec, TypeName};
 use std::alloc::Global;
 use token_grammar::{Cursor, ParseError, TokenKind};
 
@@ -87,36 +87,6 @@ pub fn typename(alloc: Global, cursor: &mut Cursor<'_>) -> Result<TypeName, Pars
     }
 }
 
-/// `"," name`
-#[tactic(auto, unfolding(crate::specs::steps::Parse::more_names))]
-fn more_names(
-    alloc: Global,
-    cursor: &mut Cursor<'_>,
-    found: &mut Items<Identifier>,
-) -> Result<(), ParseError>
-    ensures { ReadsTo (spec.more_names found.old (view cursor.old)) result found.new (view cursor.new) }
-{
-    cursor.take(TokenKind::Comma)?;
-    found.push(identifier(alloc, cursor)?)?;
-    Ok(())
-}
-
-/// `name { "," name }`
-#[tactic(auto, unfolding(crate::specs::steps::Parse::names))]
-pub fn names(alloc: Global, cursor: &mut Cursor<'_>) -> Result<Items<Identifier>, ParseError>
-    ensures { Reads (spec.names (view cursor.old)) result (view cursor.new) }
-{
-    let mut found = Items::new(alloc);
-    found.push(identifier(alloc, cursor)?)?;
-    for _turn in 0..cursor.rest.len() {
-        if !cursor.sees(TokenKind::Comma) {
-            return Ok(found);
-        }
-        more_names(alloc, cursor, &mut found)?;
-    }
-    Ok(found)
-}
-
 /// `expr ".." expr`
 #[tactic(auto, unfolding(crate::specs::steps::Parse::range))]
 fn range(alloc: Global, cursor: &mut Cursor<'_>) -> Result<Range, ParseError>
@@ -177,7 +147,7 @@ pub fn enumeration(alloc: Global, cursor: &mut Cursor<'_>) -> Result<Spec, Parse
     let start = cursor.start();
     let depth = cursor.depth;
     cursor.enter(TokenKind::OpenParenthesis)?;
-    let found = names(alloc, cursor)?;
+    let found = name_list(alloc, cursor)?;
     cursor.take(TokenKind::CloseParenthesis)?;
     cursor.depth = depth;
     Ok(Spec::Enumeration(node_at(start, cursor.last), found))

@@ -36,7 +36,7 @@ use Rattle.st_tree.specs.declared.file.Tasks.{Tasks}
 use Rattle.st_tree.specs.declared.file.Task.{Task}
 use Rattle.st_tree.specs.declared.file.Parameter.{Parameter}
 use Rattle.st_tree.specs.declared.file.ProgramLine.{ProgramLine}
-use Rattle.st_expr.specs.steps.Parse.{word, identifier, address, expression}
+use Rattle.st_expr.specs.steps.Parse.{word, identifier, address, names, expression}
 use Rattle.st_declarations.specs.Trees.{make_elementary, make_range, make_type, make_enumeration, make_array, make_elements, make_structure, make_repeated, make_field_init, make_decl, make_section, make_globals, make_fields, make_struct, make_type_decl, make_types, make_parameter, make_task, make_line, tasks_of, make_resource, make_config}
 
 -- ---- types
@@ -60,13 +60,6 @@ elementary = choose (sees_in k.Bool) (elem_as k.Bool e.Bool) (choose (sees_in k.
 -- typename = name | one of the 14 type names
 unfoldable pub typename : Parser TypeName
 typename = choose (sees_in k.Name) (identifier >>= λ i. pure (type.Named i)) elementary
-
--- names = name { "," name }
-unfoldable pub more_names : List Identifier → Parser (List Identifier)
-more_names names = take k.Comma >>= λ _. identifier >>= λ i. pure (names ++ i ∷ [])
-
-unfoldable pub names : Parser (List Identifier)
-names = identifier >>= λ i. repeated (sees_in k.Comma) more_names (i ∷ [])
 
 -- range = expr ".." expr
 unfoldable pub range : Parser Range
