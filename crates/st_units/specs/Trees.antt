@@ -2,11 +2,16 @@
 use Rattle.std.specs.Prelude.{ℕ, List}
 use Rattle.st_tree.specs.Places.{node_at}
 use Rattle.st_tree.specs.declared.expression.Identifier.{Identifier}
-use Rattle.st_tree.specs.declared.statement.Stmt.{Stmt}
-use Rattle.st_tree.specs.declared.declaration.TypeName.TheVariants as name
 use Rattle.st_tree.specs.declared.declaration.Section.{Section}
+use Rattle.st_tree.specs.declared.file.Body.{Body}
 use Rattle.st_tree.specs.declared.file.Unit.{Unit}
 use Rattle.st_tree.specs.declared.file.UnitKind.{UnitKind}
 
-abbrev pub make_unit : ℕ → ℕ → UnitKind × Identifier × List Section × List Stmt → Unit
-make_unit start end (kind, name, sections, body) = record { node = node_at start end; kind = kind; name = name; sections = sections; body = body }
+abbrev pub make_unit : ℕ → ℕ → UnitKind × Identifier × List Section × Body → Unit
+make_unit start end (kind, name, sections, body) = record {
+  node = node_at start end;
+  kind = kind;
+  name = name;
+  sections = sections;
+  body = body;
+}
