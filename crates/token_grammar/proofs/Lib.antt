@@ -15,3 +15,4 @@ pub mod Pairs
 pub mod Whole
 pub mod Three
 pub mod Loose
+pub mod Same
