@@ -3,5 +3,6 @@ pub mod Operators
 pub mod Leaves
 pub mod Arguments
 pub mod Rules
+mod Nesting
 pub mod Exactness
 pub mod Numbers
