@@ -1,6 +1,6 @@
 pub mod SimpleStatements
 pub mod LabelForms
-mod ReadingForms
+pub mod ReadingForms
 mod NamedStatements
 mod CaseBranches
 mod SameStatements
