@@ -1,12 +1,12 @@
 -- Expressions that nest to a depth are among those that nest deeper.
-use Rattle.std.proofs.Common.{ℕ, zero, suc, ◌+◌, ◌≤◌, List, [], ◌∷◌, Option, Some, None, arith}
+use Rattle.std.proofs.Common.{ℕ, zero, suc, ◌+◌, ◌≤◌, List, [], ◌∷◌, arith}
 use Rattle.token_grammar.specs.Grammar.{Rule, ◌or◌}
 use Rattle.token_grammar.proofs.Same.{SubRule, SameRule, some_of, sub_self, sub_bind, sub_then, sub_before, sub_or, sub_scoped, sub_deeper, sub_node, sub_many, sub_some_of}
 use Rattle.st_tree.specs.declared.expression.Argument.{Argument}
 use Rattle.st_tree.specs.declared.expression.Identifier.{Identifier}
 use Rattle.st_tree.specs.declared.expression.Expr.{Expr}
 use Rattle.st_tree.specs.declared.expression.Part.{Part}
-use Rattle.st_expr.specs.Trees.{ended, make_index, make_path, make_argument, make_inverted, make_parenthesized, make_binary, from_start, rank_of}
+use Rattle.st_expr.specs.Trees.{ended, make_index, make_path, make_argument, make_inverted, make_parenthesized, make_binary, from_start}
 use Rattle.st_expr.specs.Grammar as g
 
 -- ---- rules over the expressions within
@@ -47,7 +47,7 @@ module _ {inner outer : Rule Expr} (h : SubRule inner outer) where
 
   ending : (name : Identifier)
       → SubRule (g.value_ending inner name or (g.call_ending inner name or g.path_ending inner name))
-          (g.value_ending outer name or (g.call_ending outer name or g.path_ending outer name))
+      (g.value_ending outer name or (g.call_ending outer name or g.path_ending outer name))
   ending name = sub_or sub_self (sub_or (sub_before called) (sub_before parts))
 
   named : SubRule (g.named inner) (g.named outer)

@@ -16,3 +16,4 @@ pub mod Whole
 pub mod Three
 pub mod Loose
 pub mod Same
+pub mod Words

@@ -1,9 +1,9 @@
 -- Rules that spell the same words, and what is passed from the one to the other.
-use Rattle.std.proofs.Common.{◌≡◌, ℕ, zero, suc, ◌+◌, Bool, false, List, [], ◌∷◌, ◌++◌, refl, inl, inr}
+use Rattle.std.proofs.Common.{ℕ, zero, suc, ◌+◌, Bool, List, ◌∷◌, inl, inr}
 use Rattle.token_grammar.specs.declared.token.TokenKind.{TokenKind}
 use Rattle.token_grammar.specs.Texts.{Lexeme}
 use Rattle.token_grammar.specs.Input.{Parser}
-use Rattle.token_grammar.specs.Grammar.{Word, Rule, ◌>>=◌, ◌or◌, give, scoped, deeper, node, times, many}
+use Rattle.token_grammar.specs.Grammar.{Word, Rule, ◌>>=◌, ◌or◌, scoped, deeper, node, times, many}
 use Rattle.token_grammar.proofs.Laws.{Exact}
 use Rattle.token_grammar.proofs.Steps.{exact_same, told_same}
 use Rattle.token_grammar.proofs.Starts.{Starts, Opens, IsLevel}
@@ -61,6 +61,24 @@ sub_or {A} {L} {L2} {M} {M2} h k = record {
     | inl l ↦ inl (h.to d w x e l)
     | inr l ↦ inr (k.to d w x e l)
   ];
+}
+
+pub sub_either : {A : Type 0} {L M N : Rule A} → SubRule L N → SubRule M N → SubRule (L or M) N
+sub_either {A} {L} {M} {N} h k = record {
+  to = λ d w x e either. elim either [ inl l ↦ h.to d w x e l | inr l ↦ k.to d w x e l ];
+}
+
+-- either rule, before another
+pub bind_or : {A B : Type 0} {L M : Rule A} {N : A → Rule B} → SameRule ((L or M) >>= N) ((L >>= N) or (M >>= N))
+bind_or {A} {B} {L} {M} {N} = record {
+  to = record {
+    to = λ d w y e (u, v, x, m, eq, either, r). elim either [
+      | inl l ↦ inl (u, v, x, m, eq, l, r)
+      | inr l ↦ inr (u, v, x, m, eq, l, r)
+    ];
+  };
+  from = sub_either (record { to = λ d w y e (u, v, x, m, eq, l, r). (u, v, x, m, eq, inl l, r) })
+      (record { to = λ d w y e (u, v, x, m, eq, l, r). (u, v, x, m, eq, inr l, r) });
 }
 
 pub sub_scoped : {A : Type 0} {L L2 : Rule A} → SubRule L L2 → SubRule (scoped L) (scoped L2)
