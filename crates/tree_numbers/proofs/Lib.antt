@@ -1,1 +1,4 @@
 pub mod NodeEquations
+pub mod Counts
+pub mod Counted
+pub mod Turns
