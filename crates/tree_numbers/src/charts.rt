@@ -27,7 +27,7 @@ impl Numbered for Step {
     fn number(&mut self, counting: &mut Counting<'_>) -> Result<(), NoMemory> {
         counting.number(&mut self.node)?;
         self.name.number(counting)?;
-        number_each(self.associations.as_mut_slice(), counting)
+        number_each(&mut self.associations, counting)
     }
 }
 
@@ -41,7 +41,7 @@ impl Numbered for StepNames {
             StepNames::One(name) => name.number(counting),
             StepNames::Several(node, names) => {
                 counting.number(node)?;
-                number_each(names.as_mut_slice(), counting)
+                number_each(names, counting)
             }
         }
     }
@@ -69,7 +69,7 @@ impl Numbered for Action {
     fn number(&mut self, counting: &mut Counting<'_>) -> Result<(), NoMemory> {
         counting.number(&mut self.node)?;
         self.name.number(counting)?;
-        number_in_stmts(self.body.as_mut_slice(), counting)
+        number_in_stmts(&mut self.body, counting)
     }
 }
 
@@ -95,6 +95,6 @@ impl Numbered for Sfc {
     fn number(&mut self, counting: &mut Counting<'_>) -> Result<(), NoMemory> {
         counting.number(&mut self.node)?;
         self.initial.number(counting)?;
-        number_each(self.parts.as_mut_slice(), counting)
+        number_each(&mut self.parts, counting)
     }
 }

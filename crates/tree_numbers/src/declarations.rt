@@ -49,11 +49,11 @@ pub(crate) fn number_in_spec(tree: &mut Spec, counting: &mut Counting<'_>) -> Re
         }
         Spec::Enumeration(node, values) => {
             counting.number(node)?;
-            number_each(values.as_mut_slice(), counting)
+            number_each(values, counting)
         }
         Spec::Array(node, ranges, element) => {
             counting.number(node)?;
-            number_each(ranges.as_mut_slice(), counting)?;
+            number_each(ranges, counting)?;
             number_in_spec(element.get_mut(), counting)
         }
     }
@@ -143,7 +143,7 @@ impl Numbered for Decl {
 
     fn number(&mut self, counting: &mut Counting<'_>) -> Result<(), NoMemory> {
         counting.number(&mut self.node)?;
-        number_each(self.names.as_mut_slice(), counting)?;
+        number_each(&mut self.names, counting)?;
         number_option(&mut self.address, counting)?;
         number_in_spec(&mut self.spec, counting)?;
         number_option(&mut self.init, counting)
@@ -157,6 +157,6 @@ impl Numbered for Section {
 
     fn number(&mut self, counting: &mut Counting<'_>) -> Result<(), NoMemory> {
         counting.number(&mut self.node)?;
-        number_each(self.decls.as_mut_slice(), counting)
+        number_each(&mut self.decls, counting)
     }
 }

@@ -18,7 +18,7 @@ impl Numbered for Body {
 
     fn number(&mut self, counting: &mut Counting<'_>) -> Result<(), NoMemory> {
         match self {
-            Body::Statements(statements) => number_in_stmts(statements.as_mut_slice(), counting),
+            Body::Statements(statements) => number_in_stmts(statements, counting),
             Body::Chart(chart) => chart.number(counting),
         }
     }
@@ -47,7 +47,7 @@ impl Numbered for Unit {
         counting.number(&mut self.node)?;
         self.name.number(counting)?;
         self.kind.number(counting)?;
-        number_each(self.sections.as_mut_slice(), counting)?;
+        number_each(&mut self.sections, counting)?;
         self.body.number(counting)
     }
 }
@@ -59,7 +59,7 @@ impl Numbered for Fields {
 
     fn number(&mut self, counting: &mut Counting<'_>) -> Result<(), NoMemory> {
         counting.number(&mut self.node)?;
-        number_each(self.names.as_mut_slice(), counting)?;
+        number_each(&mut self.names, counting)?;
         number_in_spec(&mut self.spec, counting)?;
         number_option(&mut self.init, counting)
     }
@@ -75,7 +75,7 @@ impl Numbered for Shape {
             Shape::Spec(kind) => number_in_spec(kind, counting),
             Shape::Structure(node, members) => {
                 counting.number(node)?;
-                number_each(members.as_mut_slice(), counting)
+                number_each(members, counting)
             }
         }
     }
@@ -101,7 +101,7 @@ impl Numbered for Types {
 
     fn number(&mut self, counting: &mut Counting<'_>) -> Result<(), NoMemory> {
         counting.number(&mut self.node)?;
-        number_each(self.decls.as_mut_slice(), counting)
+        number_each(&mut self.decls, counting)
     }
 }
 
@@ -112,7 +112,7 @@ impl Numbered for Globals {
 
     fn number(&mut self, counting: &mut Counting<'_>) -> Result<(), NoMemory> {
         counting.number(&mut self.node)?;
-        number_each(self.decls.as_mut_slice(), counting)
+        number_each(&mut self.decls, counting)
     }
 }
 
@@ -136,7 +136,7 @@ impl Numbered for Task {
     fn number(&mut self, counting: &mut Counting<'_>) -> Result<(), NoMemory> {
         counting.number(&mut self.node)?;
         self.name.number(counting)?;
-        number_each(self.parameters.as_mut_slice(), counting)
+        number_each(&mut self.parameters, counting)
     }
 }
 
@@ -159,8 +159,8 @@ impl Numbered for Tasks {
     ghost counted = { counted_tasks };
 
     fn number(&mut self, counting: &mut Counting<'_>) -> Result<(), NoMemory> {
-        number_each(self.tasks.as_mut_slice(), counting)?;
-        number_each(self.lines.as_mut_slice(), counting)
+        number_each(&mut self.tasks, counting)?;
+        number_each(&mut self.lines, counting)
     }
 }
 
@@ -173,7 +173,7 @@ impl Numbered for Resource {
         counting.number(&mut self.node)?;
         self.name.number(counting)?;
         self.kind.number(counting)?;
-        number_each(self.globals.as_mut_slice(), counting)?;
+        number_each(&mut self.globals, counting)?;
         self.tasks.number(counting)
     }
 }
@@ -186,8 +186,8 @@ impl Numbered for Config {
     fn number(&mut self, counting: &mut Counting<'_>) -> Result<(), NoMemory> {
         counting.number(&mut self.node)?;
         self.name.number(counting)?;
-        number_each(self.globals.as_mut_slice(), counting)?;
-        number_each(self.resources.as_mut_slice(), counting)?;
+        number_each(&mut self.globals, counting)?;
+        number_each(&mut self.resources, counting)?;
         self.tasks.number(counting)
     }
 }

@@ -6,7 +6,7 @@ ghost use Rattle.tree_numbers.specs.steps.Turns.{Turn, each, perhaps};
 
 use crate::numbers::Counting;
 use station_ports::outside::NoMemory;
-use tree_items::Boxed;
+use tree_items::{Boxed, Items};
 
 /// A tree whose nodes are numbered in the order of the text, an outer node before the nodes within it.
 pub trait Numbered {
@@ -19,11 +19,7 @@ pub trait Numbered {
         ensures rest { OnOk result (counting.new ≡ (counted self.old counting.old).1) };
 }
 
-/// Numbers the trees one after the other.
-pub(crate) fn number_each<T: Numbered>(
-    trees: &mut [T],
-    counting: &mut Counting<'_>,
-) -> Result<(), NoMemory>
+fn number_slice<T: Numbered>(trees: &mut [T], counting: &mut Counting<'_>) -> Result<(), NoMemory>
     ensures tree { OnOk result (trees.new ≡ (each (map T.counted trees.old) counting.old).0) }
     ensures rest { OnOk result (counting.new ≡ (each (map T.counted trees.old) counting.old).1) }
 {
@@ -31,6 +27,17 @@ pub(crate) fn number_each<T: Numbered>(
         trees[i].number(counting)?;
     }
     Ok(())
+}
+
+/// Numbers the trees one after the other.
+pub(crate) fn number_each<T: Numbered>(
+    trees: &mut Items<T>,
+    counting: &mut Counting<'_>,
+) -> Result<(), NoMemory>
+    ensures tree { OnOk result (trees.new ≡ (each (map T.counted trees.old) counting.old).0) }
+    ensures rest { OnOk result (counting.new ≡ (each (map T.counted trees.old) counting.old).1) }
+{
+    number_slice(trees.as_mut_slice(), counting)
 }
 
 /// Numbers the tree, if there is one.

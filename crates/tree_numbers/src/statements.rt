@@ -9,6 +9,7 @@ use crate::numbered::{Numbered, number_each, number_option};
 use crate::numbers::Counting;
 use st_tree::{Branch, Case, Counter, Label, Point, Stmt, StmtArgument};
 use station_ports::outside::NoMemory;
+use tree_items::Items;
 
 impl Numbered for Point {
     ghost use Rattle.tree_numbers.specs.steps.Counted.{counted_point};
@@ -90,41 +91,41 @@ pub(crate) fn number_in_stmt(tree: &mut Stmt, counting: &mut Counting<'_>) -> Re
         Stmt::Call(node, name, arguments) => {
             counting.number(node)?;
             name.number(counting)?;
-            number_each(arguments.as_mut_slice(), counting)
+            number_each(arguments, counting)
         }
         Stmt::Return(node) => counting.number(node),
         Stmt::Exit(node) => counting.number(node),
         Stmt::Continue(node) => counting.number(node),
         Stmt::If(node, branches, otherwise) => {
             counting.number(node)?;
-            number_in_branches(branches.as_mut_slice(), counting)?;
+            number_in_branches(branches, counting)?;
             match otherwise {
                 None => Ok(()),
-                Some(body) => number_in_stmts(body.as_mut_slice(), counting),
+                Some(body) => number_in_stmts(body, counting),
             }
         }
         Stmt::Case(node, selector, cases, otherwise) => {
             counting.number(node)?;
             number_in_expr(selector.get_mut(), counting)?;
-            number_in_cases(cases.as_mut_slice(), counting)?;
+            number_in_cases(cases, counting)?;
             match otherwise {
                 None => Ok(()),
-                Some(body) => number_in_stmts(body.as_mut_slice(), counting),
+                Some(body) => number_in_stmts(body, counting),
             }
         }
         Stmt::For(node, counter, body) => {
             counting.number(node)?;
             counter.get_mut().number(counting)?;
-            number_in_stmts(body.as_mut_slice(), counting)
+            number_in_stmts(body, counting)
         }
         Stmt::While(node, condition, body) => {
             counting.number(node)?;
             number_in_expr(condition.get_mut(), counting)?;
-            number_in_stmts(body.as_mut_slice(), counting)
+            number_in_stmts(body, counting)
         }
         Stmt::Repeat(node, body, condition) => {
             counting.number(node)?;
-            number_in_stmts(body.as_mut_slice(), counting)?;
+            number_in_stmts(body, counting)?;
             number_in_expr(condition.get_mut(), counting)
         }
     }
@@ -137,7 +138,7 @@ fn number_in_branch(tree: &mut Branch, counting: &mut Counting<'_>) -> Result<()
     ensures rest { OnOk result (counting.new ≡ (counted_branch tree.old counting.old).1) }
 {
     number_in_expr(tree.condition.get_mut(), counting)?;
-    number_in_stmts(tree.body.as_mut_slice(), counting)
+    number_in_stmts(&mut tree.body, counting)
 }
 
 #[cycle(statement)]
@@ -146,12 +147,20 @@ fn number_in_case(tree: &mut Case, counting: &mut Counting<'_>) -> Result<(), No
     ensures tree { OnOk result (tree.new ≡ (counted_case tree.old counting.old).0) }
     ensures rest { OnOk result (counting.new ≡ (counted_case tree.old counting.old).1) }
 {
-    number_each(tree.labels.as_mut_slice(), counting)?;
-    number_in_stmts(tree.body.as_mut_slice(), counting)
+    number_each(&mut tree.labels, counting)?;
+    number_in_stmts(&mut tree.body, counting)
 }
 
 #[cycle(statement)]
-pub(crate) fn number_in_stmts(trees: &mut [Stmt], counting: &mut Counting<'_>) -> Result<(), NoMemory>
+pub(crate) fn number_in_stmts(trees: &mut Items<Stmt>, counting: &mut Counting<'_>) -> Result<(), NoMemory>
+    ensures tree { OnOk result (trees.new ≡ (each (map counted_stmt trees.old) counting.old).0) }
+    ensures rest { OnOk result (counting.new ≡ (each (map counted_stmt trees.old) counting.old).1) }
+{
+    number_in_stmt_slice(trees.as_mut_slice(), counting)
+}
+
+#[cycle(statement)]
+fn number_in_stmt_slice(trees: &mut [Stmt], counting: &mut Counting<'_>) -> Result<(), NoMemory>
     ensures tree { OnOk result (trees.new ≡ (each (map counted_stmt trees.old) counting.old).0) }
     ensures rest { OnOk result (counting.new ≡ (each (map counted_stmt trees.old) counting.old).1) }
 {
@@ -162,7 +171,15 @@ pub(crate) fn number_in_stmts(trees: &mut [Stmt], counting: &mut Counting<'_>) -
 }
 
 #[cycle(statement)]
-fn number_in_branches(trees: &mut [Branch], counting: &mut Counting<'_>) -> Result<(), NoMemory>
+fn number_in_branches(trees: &mut Items<Branch>, counting: &mut Counting<'_>) -> Result<(), NoMemory>
+    ensures tree { OnOk result (trees.new ≡ (each (map counted_branch trees.old) counting.old).0) }
+    ensures rest { OnOk result (counting.new ≡ (each (map counted_branch trees.old) counting.old).1) }
+{
+    number_in_branch_slice(trees.as_mut_slice(), counting)
+}
+
+#[cycle(statement)]
+fn number_in_branch_slice(trees: &mut [Branch], counting: &mut Counting<'_>) -> Result<(), NoMemory>
     ensures tree { OnOk result (trees.new ≡ (each (map counted_branch trees.old) counting.old).0) }
     ensures rest { OnOk result (counting.new ≡ (each (map counted_branch trees.old) counting.old).1) }
 {
@@ -173,7 +190,15 @@ fn number_in_branches(trees: &mut [Branch], counting: &mut Counting<'_>) -> Resu
 }
 
 #[cycle(statement)]
-fn number_in_cases(trees: &mut [Case], counting: &mut Counting<'_>) -> Result<(), NoMemory>
+fn number_in_cases(trees: &mut Items<Case>, counting: &mut Counting<'_>) -> Result<(), NoMemory>
+    ensures tree { OnOk result (trees.new ≡ (each (map counted_case trees.old) counting.old).0) }
+    ensures rest { OnOk result (counting.new ≡ (each (map counted_case trees.old) counting.old).1) }
+{
+    number_in_case_slice(trees.as_mut_slice(), counting)
+}
+
+#[cycle(statement)]
+fn number_in_case_slice(trees: &mut [Case], counting: &mut Counting<'_>) -> Result<(), NoMemory>
     ensures tree { OnOk result (trees.new ≡ (each (map counted_case trees.old) counting.old).0) }
     ensures rest { OnOk result (counting.new ≡ (each (map counted_case trees.old) counting.old).1) }
 {

@@ -4,25 +4,25 @@ use Rattle.tree_numbers.specs.steps.Counted.{counted_branch, counted_case, count
 use Rattle.tree_numbers.proofs.Turns.{behind}
 use Rattle.tree_numbers.proofs.statements.+statement.Given as goal
 
-abbrev pub invariant-number_in_branches-loop-i : goal.invariant-number_in_branches-loop-i
-invariant-number_in_branches-loop-i l = record {
-  unvisited : goal.unvisited-number_in_branches-loop-i l;
+abbrev pub invariant-number_in_branch_slice-loop-i : goal.invariant-number_in_branch_slice-loop-i
+invariant-number_in_branch_slice-loop-i l = record {
+  unvisited : goal.unvisited-number_in_branch_slice-loop-i l;
   so_far :
       each (map counted_branch l.initial.trees) l.initial.counting
       ≡ behind (take l.i l.trees) (each (map counted_branch (drop l.i l.trees)) l.counting);
 }
 
-abbrev pub invariant-number_in_cases-loop-i : goal.invariant-number_in_cases-loop-i
-invariant-number_in_cases-loop-i l = record {
-  unvisited : goal.unvisited-number_in_cases-loop-i l;
+abbrev pub invariant-number_in_case_slice-loop-i : goal.invariant-number_in_case_slice-loop-i
+invariant-number_in_case_slice-loop-i l = record {
+  unvisited : goal.unvisited-number_in_case_slice-loop-i l;
   so_far :
       each (map counted_case l.initial.trees) l.initial.counting
       ≡ behind (take l.i l.trees) (each (map counted_case (drop l.i l.trees)) l.counting);
 }
 
-abbrev pub invariant-number_in_stmts-loop-i : goal.invariant-number_in_stmts-loop-i
-invariant-number_in_stmts-loop-i l = record {
-  unvisited : goal.unvisited-number_in_stmts-loop-i l;
+abbrev pub invariant-number_in_stmt_slice-loop-i : goal.invariant-number_in_stmt_slice-loop-i
+invariant-number_in_stmt_slice-loop-i l = record {
+  unvisited : goal.unvisited-number_in_stmt_slice-loop-i l;
   so_far :
       each (map counted_stmt l.initial.trees) l.initial.counting
       ≡ behind (take l.i l.trees) (each (map counted_stmt (drop l.i l.trees)) l.counting);

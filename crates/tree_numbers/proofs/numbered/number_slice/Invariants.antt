@@ -1,7 +1,7 @@
 use Rattle.std.proofs.Common.{◌≡◌, map, take, drop}
 use Rattle.tree_numbers.specs.steps.Turns.{each}
 use Rattle.tree_numbers.proofs.Turns.{behind}
-use Rattle.tree_numbers.proofs.numbered.number_each.Given as goal
+use Rattle.tree_numbers.proofs.numbered.number_slice.Given as goal
 
 abbrev pub invariant-loop-i : goal.invariant-loop-i
 invariant-loop-i g l =
