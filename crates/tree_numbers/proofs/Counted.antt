@@ -19,7 +19,7 @@ counted_rest [] c =
 counted_rest (x ∷ ns) c =
     counted_rest ns (counted x c).1
     ∙ ap (λ (l : List ℕ). record { comments = c.comments; starts = l })
-      (append_assoc c.starts (x.start ∷ []) (starts_of ns))
+    (append_assoc c.starts (x.start ∷ []) (starts_of ns))
 
 pub counted_at : (ns : List Node) (c : Counting) (k : ℕ) →
     slice_get (each (map counted ns) c).0 k
@@ -29,7 +29,7 @@ counted_at (x ∷ ns) c zero = ap (λ n. Some (numbered_at c.comments n x)) (ome
 counted_at (x ∷ ns) c (suc k) =
     counted_at ns (counted x c).1 k
     ∙ ap (λ n. option_map (numbered_at c.comments n) (slice_get ns k))
-      (omega (arith, length-append c.starts (x.start ∷ [])))
+    (omega (arith, length-append c.starts (x.start ∷ [])))
 
 -- some nodes, and then others
 abbrev pub and_then : List Node → List Node × Counting → List Node × Counting

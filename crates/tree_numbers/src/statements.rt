@@ -152,7 +152,10 @@ fn number_in_case(tree: &mut Case, counting: &mut Counting<'_>) -> Result<(), No
 }
 
 #[cycle(statement)]
-pub(crate) fn number_in_stmts(trees: &mut Items<Stmt>, counting: &mut Counting<'_>) -> Result<(), NoMemory>
+pub(crate) fn number_in_stmts(
+    trees: &mut Items<Stmt>,
+    counting: &mut Counting<'_>,
+) -> Result<(), NoMemory>
     ensures tree { OnOk result (trees.new ≡ (each (map counted_stmt trees.old) counting.old).0) }
     ensures rest { OnOk result (counting.new ≡ (each (map counted_stmt trees.old) counting.old).1) }
 {
@@ -171,7 +174,10 @@ fn number_in_stmt_slice(trees: &mut [Stmt], counting: &mut Counting<'_>) -> Resu
 }
 
 #[cycle(statement)]
-fn number_in_branches(trees: &mut Items<Branch>, counting: &mut Counting<'_>) -> Result<(), NoMemory>
+fn number_in_branches(
+    trees: &mut Items<Branch>,
+    counting: &mut Counting<'_>,
+) -> Result<(), NoMemory>
     ensures tree { OnOk result (trees.new ≡ (each (map counted_branch trees.old) counting.old).0) }
     ensures rest { OnOk result (counting.new ≡ (each (map counted_branch trees.old) counting.old).1) }
 {
