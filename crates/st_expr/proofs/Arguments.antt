@@ -18,7 +18,7 @@ use Rattle.st_tree.specs.declared.expression.Expr.{Expr}
 use Rattle.st_tree.specs.declared.expression.Identifier.{Identifier}
 use Rattle.st_expr.specs.Trees.{make_identifier, make_argument}
 use Rattle.st_expr.specs.Grammar as g
-use Rattle.st_expr.specs.Parse as p
+use Rattle.st_expr.specs.steps.Parse as p
 use Rattle.st_expr.proofs.Leaves.{form_identifier, level_identifier}
 
 -- a name alone is an expression

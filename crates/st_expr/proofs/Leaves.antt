@@ -7,7 +7,7 @@ use Rattle.token_grammar.proofs.Forms.{Form, Body, form_token, form_take, form_a
 use Rattle.st_tree.specs.declared.expression.Part.TheVariants as part
 use Rattle.st_expr.specs.Trees.{make_identifier, make_address, make_number, make_typed, make_time, make_truth}
 use Rattle.st_expr.specs.Grammar as g
-use Rattle.st_expr.specs.Parse as p
+use Rattle.st_expr.specs.steps.Parse as p
 
 pub form_word : {V : ℕ → Type 0} (kind : TokenKind) → Form V (p.word kind) (g.word kind) (kind ∷ []) []
 unfolding p.word

@@ -3,7 +3,7 @@ use Rattle.std.proofs.Common.{◌≡◌, ℕ, zero, suc, ◌+◌, ◌-◌, ◌�
 use Rattle.token_grammar.specs.Input.{Input, Stop, Outcome, Parser, and_then, with_place, start}
 use Rattle.st_tree.specs.declared.expression.Expr.{Expr}
 use Rattle.st_expr.specs.Trees.{from_start}
-use Rattle.st_expr.specs.Parse.{level, chain}
+use Rattle.st_expr.specs.steps.Parse.{level, chain}
 
 module _ (inner : Parser Expr) (i : Input) where
   -- a level is the one below, and then its own operators

@@ -3,11 +3,8 @@ pub mod Operators
 pub mod Leaves
 pub mod Arguments
 pub mod Rules
+mod Nesting
 pub mod Exactness
-pub mod SimpleStatements
-pub mod LabelForms
-pub mod StatementExactness
 pub mod Numbers
-mod FrontLaws
-pub mod FrontAnswers
-pub mod CaseBranches
+pub mod Lists
+pub mod NameLists

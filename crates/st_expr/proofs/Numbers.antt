@@ -14,7 +14,7 @@ use Rattle.st_tree.specs.declared.expression.Expr.{Expr}
 use Rattle.st_tree.specs.declared.expression.Identifier.{Identifier}
 use Rattle.st_expr.specs.declared.rank.Rank.{Rank}
 use Rattle.st_expr.specs.declared.rank.Rank.TheVariants as rank
-use Rattle.st_expr.specs.Trees.{Ending, ended, from_start, make_identifier, make_binary, make_inverted, make_index, make_path, make_number, rank_of, path_of}
+use Rattle.st_expr.specs.Trees.{Ending, ended, from_start, make_identifier, make_binary, make_inverted, make_index, make_path, make_number, rank_of, path_of, make_parenthesized}
 use Rattle.st_tree.specs.declared.expression.Root.TheVariants as root
 use Rattle.st_expr.specs.Grammar as g
 use Rattle.st_expr.proofs.Operators.{kinds_of, form_operators}
@@ -95,7 +95,7 @@ number_nested (suc m) d w x e (mid, l, same) rest none = lacks_level (g.nested m
 
 -- a bracket behind a number with which an expression begins is behind the expression
 pub number_expression : LacksTwo g.expression k.Number k.OpenParenthesis
-number_expression d w x e (n, l) rest none = number_nested (258 + n) d w x e l rest none
+number_expression d w x e (n, l) rest none = number_nested n d w x e l rest none
 
 -- ---- a name, and then ":="
 
@@ -109,7 +109,7 @@ free_becomes rank.Xor = refl
 free_becomes rank.Or = refl
 
 starts_group : (rule : Rule Expr) → Starts (g.group rule) (k.OpenParenthesis ∷ [])
-starts_group rule = starts_scoped (starts_bind (starts_token k.OpenParenthesis 1 1))
+starts_group rule = starts_node make_parenthesized (starts_scoped (starts_bind (starts_token k.OpenParenthesis 1 1)))
 
 starts_located : (rule : Rule Expr) → Starts (g.located rule) (k.Address ∷ [])
 starts_located rule = starts_node make_path (starts_bind (form_address {V = Body 0}).starts)
@@ -169,8 +169,8 @@ starts_close : (y : Expr) → Starts (token_as (is_kind k.CloseParenthesis) 0 0 
 starts_close y = starts_bind (starts_token k.CloseParenthesis 0 0)
 
 three_group : (rule : Rule Expr) → LacksTwo rule k.Name k.Becomes → LacksThree (g.group rule)
-three_group rule lacks d w x e (mid, (u, v, t, m, eq, (one, is, after), (u2, v2, y, m2, eq2, l, r)), same) rest =
-    let behind = only_false _ (sees_other (k.CloseParenthesis ∷ []) (k.Becomes ∷ []) (lexemes_of v2 ++ rest) refl ((starts_close y).sees m2 v2 x mid r rest)) in
+three_group rule lacks d w x e (z, (mid, (u, v, t, m, eq, (one, is, after), (u2, v2, y, m2, eq2, l, r)), same), made) rest =
+    let behind = only_false _ (sees_other (k.CloseParenthesis ∷ []) (k.Becomes ∷ []) (lexemes_of v2 ++ rest) refl ((starts_close y).sees m2 v2 z mid r rest)) in
     let none = lacks m u2 y m2 l (lexemes_of v2 ++ rest) behind in
     rw (eq, one, eq2, lexemes_of-two u2 v2 rest, none) (and_none (is_kind k.OpenParenthesis t))
 
@@ -191,7 +191,7 @@ three_nested zero d w x e l rest = absurd l
 three_nested (suc m) d w x e (mid, l, same) rest = three_level (g.nested m) (name_nested m) 7 d w x mid l rest
 
 pub three_expression : LacksThree g.expression
-three_expression d w x e (n, l) rest = three_nested (258 + n) d w x e l rest
+three_expression d w x e (n, l) rest = three_nested n d w x e l rest
 
 -- ---- words of expressions
 
@@ -206,7 +206,7 @@ unfolding g.nested
 number_within m d t is = let s = number_level (g.nested m) 7 d t is in (s.0, d, (s.1, s.2, refl))
 
 pub number_alone : (d : ℕ) (t : Lexeme) → is_kind k.Number t ≡ true → (x : Expr) × (e : ℕ) × g.expression d ((t, d + 0) ∷ []) x e
-number_alone d t is = let s = number_within 257 d t is in (s.0, s.1, (0, s.2))
+number_alone d t is = let s = number_within 0 d t is in (s.0, s.1, (1, s.2))
 
 -- a name in brackets is an expression
 abbrev bracketed : ℕ → Lexeme → Lexeme → Word
@@ -217,17 +217,21 @@ group_word m d a b is next =
     let s = nested_names m (d + 1) b next in
     let c = a_token k.CloseParenthesis in
     let level : s.1 ≡ d + 1 = nested_level (suc m) (d + 1) ((b, d + 1 + 0) ∷ []) s.0 s.1 s.2 in (
-      s.0,
+      make_parenthesized a.start c.end s.0,
       (
-        s.1 + 0,
+        s.0,
         (
-          (a, d + 1) ∷ [],
-          (b, d + 1 + 0) ∷ (c, d + 1 + 0) ∷ [],
-          a,
-          d + 1,
+          s.1 + 0,
+          (
+            (a, d + 1) ∷ [],
+            (b, d + 1 + 0) ∷ (c, d + 1 + 0) ∷ [],
+            a,
+            d + 1,
+            refl,
+            (refl, is, refl),
+            ((b, d + 1 + 0) ∷ [], (c, d + 1 + 0) ∷ [], s.0, s.1, refl, s.2, ((c, d + 1 + 0) ∷ [], [], c, s.1 + 0, refl, (rw level refl, same_kind_refl k.CloseParenthesis, refl), (refl, refl, refl))),
+          ),
           refl,
-          (refl, is, refl),
-          ((b, d + 1 + 0) ∷ [], (c, d + 1 + 0) ∷ [], s.0, s.1, refl, s.2, ((c, d + 1 + 0) ∷ [], [], c, s.1 + 0, refl, (rw level refl, same_kind_refl k.CloseParenthesis, refl), (refl, refl, refl))),
         ),
         refl,
       ),
@@ -244,4 +248,5 @@ group_within m d a b is next = let s = group_level m 7 d a b is next in (s.0, d,
 
 -- "(" and a name begin an expression
 pub group_begins : (d : ℕ) (a b : Lexeme) → is_kind k.OpenParenthesis a ≡ true → is_kind k.Name b ≡ true → (w : Word) × (x : Expr) × (e : ℕ) × g.expression d ((a, d + 1) ∷ (b, d + 1 + 0) ∷ w) x e
-group_begins d a b is next = let s = group_within 256 d a b is next in ((a_token k.CloseParenthesis, d + 1 + 0) ∷ [], s.0, s.1, (0, s.2))
+group_begins d a b is next = let s = group_within 0 d a b is next in
+    ((a_token k.CloseParenthesis, d + 1 + 0) ∷ [], s.0, s.1, (2, s.2))

@@ -11,7 +11,7 @@ use Rattle.st_tree.specs.declared.expression.BinaryOperator.TheVariants as op
 use Rattle.st_expr.specs.declared.rank.Rank.{Rank}
 use Rattle.st_expr.specs.declared.rank.Rank.TheVariants as rank
 use Rattle.st_expr.specs.Grammar as g
-use Rattle.st_expr.specs.Parse as p
+use Rattle.st_expr.specs.steps.Parse as p
 
 abbrev pub kinds_of : Rank → List TokenKind
 kinds_of rank.Product = k.Star ∷ k.Slash ∷ k.Mod ∷ []

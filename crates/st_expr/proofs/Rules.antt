@@ -17,9 +17,9 @@ use Rattle.st_tree.specs.declared.expression.Expr.{Expr}
 use Rattle.st_tree.specs.declared.expression.Expr.TheVariants as expr
 use Rattle.st_tree.specs.declared.expression.Argument.{Argument}
 use Rattle.st_tree.specs.declared.expression.Part.{Part}
-use Rattle.st_expr.specs.Trees.{ended, make_index, make_path, make_inverted, value_of, call_of, path_of, literal_of, negated_of}
+use Rattle.st_expr.specs.Trees.{ended, make_index, make_path, make_inverted, value_of, call_of, path_of, literal_of, negated_of, make_parenthesized}
 use Rattle.st_expr.specs.Grammar as g
-use Rattle.st_expr.specs.Parse as p
+use Rattle.st_expr.specs.steps.Parse as p
 use Rattle.st_expr.proofs.Leaves.{form_word, form_identifier, level_identifier, form_address, level_address, form_field, level_field, form_number, form_typed, form_time, form_truth}
 use Rattle.st_expr.proofs.Operators.{or_is, last_is}
 use Rattle.st_expr.proofs.Arguments.{HasNames, exact_argument, starts_argument, level_argument}
@@ -197,7 +197,7 @@ module _ (n : ℕ) (inner : Parser Expr) (rule : Rule Expr) (ends firsts : List 
 
   form_group : Form (Body n) (p.group inner) (g.group rule) (k.OpenParenthesis ∷ []) []
   unfolding p.group
-  form_group = form_scoped (form_take k.OpenParenthesis 1 1 (λ _. bind_starts {W = Anywhere} ends h (λ x. (form_last k.CloseParenthesis x).exact) (anywhere (Inner n) rule) (λ x. (form_last {V = Anywhere} k.CloseParenthesis x).starts) free_parenthesis) into)
+  form_group = form_node make_parenthesized (form_scoped (form_take k.OpenParenthesis 1 1 (λ _. bind_starts {W = Anywhere} ends h (λ x. (form_last k.CloseParenthesis x).exact) (anywhere (Inner n) rule) (λ x. (form_last {V = Anywhere} k.CloseParenthesis x).starts) free_parenthesis) into))
 
   form_placed : Form (Body n) (p.placed inner) ((g.located rule >>= λ x. give (expr.Path x)) or g.named rule) (k.Address ∷ k.Name ∷ []) operand_ends
   unfolding p.placed

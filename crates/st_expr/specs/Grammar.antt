@@ -1,6 +1,6 @@
 -- The grammar of expressions and paths. Source: the textual grammar of IEC 61131-3:2013, narrowed to this profile. A rule that begins with a
 -- name is written with the name first and what may follow it behind. The code descends by a look at the next token, or at the next two.
-use Rattle.std.specs.Prelude.{ℕ, zero, suc, ◌+◌, Bool, true, false, List, [], ◌∷◌, ◌++◌, Option, Some, None}
+use Rattle.std.specs.Prelude.{ℕ, zero, suc, Bool, true, false, List, [], ◌∷◌, ◌++◌, Option, Some, None}
 use Rattle.token_grammar.specs.declared.token.TokenKind.{TokenKind}
 use Rattle.token_grammar.specs.declared.token.TokenKind.TheVariants as k
 use Rattle.token_grammar.specs.Texts.{Lexeme}
@@ -20,7 +20,7 @@ use Rattle.st_tree.specs.declared.expression.Part.{Part}
 use Rattle.st_tree.specs.declared.expression.Part.TheVariants as part
 use Rattle.st_expr.specs.declared.rank.Rank.{Rank}
 use Rattle.st_expr.specs.declared.rank.Rank.TheVariants as rank
-use Rattle.st_expr.specs.Trees.{Text, rank_of, Ending, ended, make_identifier, make_address, make_path, make_index, make_number, make_typed, make_time, make_truth, make_argument, make_inverted, make_binary, value_of, call_of, path_of, literal_of, negated_of, from_start}
+use Rattle.st_expr.specs.Trees.{Text, rank_of, Ending, ended, make_identifier, make_address, make_path, make_index, make_number, make_typed, make_time, make_truth, make_argument, make_inverted, make_parenthesized, make_binary, value_of, call_of, path_of, literal_of, negated_of, from_start}
 
 -- the bytes of a token
 abbrev pub word : TokenKind → Rule Text
@@ -39,6 +39,13 @@ identifier = node make_identifier (word k.Name)
 
 abbrev pub address : Rule Address
 address = node make_address (word k.Address)
+
+-- names = name { "," name }
+abbrev pub more_names : List Identifier → Rule (List Identifier)
+more_names found = token k.Comma >>= λ _. identifier >>= λ i. give (found ++ i ∷ [])
+
+abbrev pub names : Rule (List Identifier)
+names = identifier >>= λ i. many more_names (i ∷ [])
 
 -- ---- operators, by rank
 
@@ -143,7 +150,7 @@ module _ (inner : Rule Expr) where
 
   -- "(" expr ")"
   abbrev pub group : Rule Expr
-  group = scoped (opening k.OpenParenthesis >>= λ _. inner >>= λ x. token k.CloseParenthesis >>= λ _. give x)
+  group = node make_parenthesized (scoped (opening k.OpenParenthesis >>= λ _. inner >>= λ x. token k.CloseParenthesis >>= λ _. give x))
 
   -- primary, but for a number: typed | time | TRUE | FALSE | path | name "#" name | "(" expr ")" | name "(" arguments ")"
   abbrev pub other : Rule Expr
@@ -180,7 +187,6 @@ unfoldable pub nested : ℕ → Rule Expr
 nested zero d w x e = ⊥
 nested (suc n) d w x e = whole (nested n) d w x e
 
--- An expression, in which expressions nest to whatever depth. (Each bound reads what a smaller one does, so that it may as well begin with one
--- that the depth of no text reaches.)
+-- An expression, in which expressions nest to whatever depth.
 abbrev pub expression : Rule Expr
-expression d w x e = (n : ℕ) × nested (258 + n) d w x e
+expression d w x e = (n : ℕ) × nested n d w x e

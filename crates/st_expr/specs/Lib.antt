@@ -1,11 +1,3 @@
 pub mod Trees
 pub mod Grammar
-pub mod Parse
-pub mod Nests
-pub mod StatementTrees
-pub mod Statements
-pub mod ParseStatements
-pub mod NestsStatements
-pub mod Held
-pub mod Fronts
-pub mod CaseLaws
+pub mod steps

@@ -75,6 +75,9 @@ literal_of text start end = make_number true start end text
 abbrev pub negated_of : Expr → Ending
 negated_of x start end = expr.Unary (node_at start end) Negate x
 
+abbrev pub make_parenthesized : ℕ → ℕ → Expr → Expr
+make_parenthesized start end x = expr.Parenthesized (node_at start end) x
+
 abbrev pub make_inverted : ℕ → ℕ → Expr → Expr
 make_inverted start end x = expr.Unary (node_at start end) Not x
 

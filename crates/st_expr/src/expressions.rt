@@ -6,15 +6,15 @@ ghost use Rattle.token_grammar.specs.declared.token.TokenKind.TheVariants as kin
 ghost use Rattle.st_tree.specs.declared.expression.Expr.TheVariants as trees;
 ghost use Rattle.st_tree.specs.declared.expression.UnaryOperator.TheVariants as unary;
 ghost use Rattle.st_tree.specs.Places as places;
-ghost use Rattle.st_expr.specs.Parse as spec;
-ghost use Rattle.st_expr.specs.Nests.{Nests};
+ghost use Rattle.st_expr.specs.steps.Parse as spec;
+ghost use Rattle.st_expr.specs.steps.Nests.{Nests};
 
 use crate::names::{identifier, node_at, word};
 use crate::rank::{operators, rank_of, sees_operator};
-use tree_items::{Boxed, Items};
 use st_tree::{Argument, BinaryOperator, Expr, Identifier, Node, Path, Root, UnaryOperator};
 use std::alloc::{AllocError, Global};
 use token_grammar::{Cursor, ParseError, TokenKind};
+use tree_items::{Boxed, Items};
 
 /// What the rules are read with.
 #[derive(Clone, Copy)]
@@ -30,28 +30,23 @@ fn binary(
     alloc: Global,
     node: Node,
     operator: BinaryOperator,
-    left: Expr,
-    right: Expr,
-) -> Result<Expr, AllocError>
+    left: Boxed<Expr>,
+    right: Boxed<Expr>,
+) -> Result<Boxed<Expr>, AllocError>
     ensures { IfOk result (λ e. e ≡ trees.Binary node operator left right) }
 {
-    Ok(Expr::Binary(
-        node,
-        operator,
-        Boxed::new(alloc, left)?,
-        Boxed::new(alloc, right)?,
-    ))
+    Boxed::new(alloc, Expr::Binary(node, operator, left, right))
 }
 
 fn unary(
     alloc: Global,
     node: Node,
     operator: UnaryOperator,
-    operand: Expr,
-) -> Result<Expr, AllocError>
+    operand: Boxed<Expr>,
+) -> Result<Boxed<Expr>, AllocError>
     ensures { IfOk result (λ e. e ≡ trees.Unary node operator operand) }
 {
-    Ok(Expr::Unary(node, operator, Boxed::new(alloc, operand)?))
+    Boxed::new(alloc, Expr::Unary(node, operator, operand))
 }
 
 /// Whether a name and `:=` come next.
@@ -62,48 +57,57 @@ fn sees_named(cursor: &Cursor<'_>) -> bool
 }
 
 /// A number.
-#[tactic(auto, unfolding(crate::specs::Parse::number))]
-fn number(alloc: Global, cursor: &mut Cursor<'_>) -> Result<Expr, ParseError>
+#[tactic(auto, unfolding(crate::specs::steps::Parse::number))]
+fn number(alloc: Global, cursor: &mut Cursor<'_>) -> Result<Boxed<Expr>, ParseError>
     ensures { Reads (spec.number (view cursor.old)) result (view cursor.new) }
 {
     let start = cursor.start();
     let text = word(alloc, cursor, TokenKind::Number)?;
-    Ok(Expr::Number(node_at(start, cursor.last), false, text))
+    let node = node_at(start, cursor.last);
+    Ok(Boxed::new(alloc, Expr::Number(node, false, text))?)
 }
 
 /// A typed number.
-#[tactic(auto, unfolding(crate::specs::Parse::typed))]
-fn typed(alloc: Global, cursor: &mut Cursor<'_>) -> Result<Expr, ParseError>
+#[tactic(auto, unfolding(crate::specs::steps::Parse::typed))]
+fn typed(alloc: Global, cursor: &mut Cursor<'_>) -> Result<Boxed<Expr>, ParseError>
     ensures { Reads (spec.typed (view cursor.old)) result (view cursor.new) }
 {
     let start = cursor.start();
     let text = word(alloc, cursor, TokenKind::TypedNumber)?;
-    Ok(Expr::Typed(node_at(start, cursor.last), text))
+    let node = node_at(start, cursor.last);
+    Ok(Boxed::new(alloc, Expr::Typed(node, text))?)
 }
 
 /// A time.
-#[tactic(auto, unfolding(crate::specs::Parse::time))]
-fn time(alloc: Global, cursor: &mut Cursor<'_>) -> Result<Expr, ParseError>
+#[tactic(auto, unfolding(crate::specs::steps::Parse::time))]
+fn time(alloc: Global, cursor: &mut Cursor<'_>) -> Result<Boxed<Expr>, ParseError>
     ensures { Reads (spec.time (view cursor.old)) result (view cursor.new) }
 {
     let start = cursor.start();
     let text = word(alloc, cursor, TokenKind::Duration)?;
-    Ok(Expr::Time(node_at(start, cursor.last), text))
+    let node = node_at(start, cursor.last);
+    Ok(Boxed::new(alloc, Expr::Time(node, text))?)
 }
 
 /// `TRUE` or `FALSE`.
-#[tactic(auto, unfolding(crate::specs::Parse::truth))]
-fn truth(cursor: &mut Cursor<'_>, kind: TokenKind, value: bool) -> Result<Expr, ParseError>
+#[tactic(auto, unfolding(crate::specs::steps::Parse::truth))]
+fn truth(
+    alloc: Global,
+    cursor: &mut Cursor<'_>,
+    kind: TokenKind,
+    value: bool,
+) -> Result<Boxed<Expr>, ParseError>
     ensures { Reads (spec.truth kind value (view cursor.old)) result (view cursor.new) }
 {
     let start = cursor.start();
     cursor.take(kind)?;
-    Ok(Expr::Truth(node_at(start, cursor.last), value))
+    let node = node_at(start, cursor.last);
+    Ok(Boxed::new(alloc, Expr::Truth(node, value))?)
 }
 
-impl<F: Fn(Global, &mut Cursor<'_>, usize) -> Result<Expr, ParseError>> Grammar<F> {
+impl<F: Fn(Global, &mut Cursor<'_>, usize) -> Result<Boxed<Expr>, ParseError>> Grammar<F> {
     /// An expression within another form.
-    pub fn expr(&self, cursor: &mut Cursor<'_>) -> Result<Expr, ParseError>
+    pub fn expr(&self, cursor: &mut Cursor<'_>) -> Result<Boxed<Expr>, ParseError>
         requires { Nests self.now.nest (F.pre self.now.expr) (F.post self.now.expr) }
         ensures { Reads (spec.nested self.now.nest (view cursor.old)) result (view cursor.new) }
     {
@@ -111,11 +115,11 @@ impl<F: Fn(Global, &mut Cursor<'_>, usize) -> Result<Expr, ParseError>> Grammar<
     }
 
     /// `name ":=" expr`
-    #[tactic(auto, unfolding(crate::specs::Parse::named_argument))]
+    #[tactic(auto, unfolding(crate::specs::steps::Parse::named_argument))]
     fn named_argument(
         &self,
         cursor: &mut Cursor<'_>,
-    ) -> Result<(Option<Identifier>, Expr), ParseError>
+    ) -> Result<(Option<Identifier>, Boxed<Expr>), ParseError>
         requires { Nests self.now.nest (F.pre self.now.expr) (F.post self.now.expr) }
         ensures { Reads (spec.named_argument (spec.nested self.now.nest) (view cursor.old)) result (view cursor.new) }
     {
@@ -126,7 +130,7 @@ impl<F: Fn(Global, &mut Cursor<'_>, usize) -> Result<Expr, ParseError>> Grammar<
     }
 
     /// `[ name ":=" ] expr`
-    #[tactic(auto, unfolding(crate::specs::Parse::argument))]
+    #[tactic(auto, unfolding(crate::specs::steps::Parse::argument))]
     fn argument(&self, cursor: &mut Cursor<'_>) -> Result<Argument, ParseError>
         requires { Nests self.now.nest (F.pre self.now.expr) (F.post self.now.expr) }
         ensures { Reads (spec.argument (spec.nested self.now.nest) (view cursor.old)) result (view cursor.new) }
@@ -149,7 +153,7 @@ impl<F: Fn(Global, &mut Cursor<'_>, usize) -> Result<Expr, ParseError>> Grammar<
     }
 
     /// `"," argument`
-    #[tactic(auto, unfolding(crate::specs::Parse::more_arguments))]
+    #[tactic(auto, unfolding(crate::specs::steps::Parse::more_arguments))]
     fn more_arguments(
         &self,
         cursor: &mut Cursor<'_>,
@@ -164,7 +168,7 @@ impl<F: Fn(Global, &mut Cursor<'_>, usize) -> Result<Expr, ParseError>> Grammar<
     }
 
     /// `[ argument { "," argument } ]`
-    #[tactic(auto, unfolding(crate::specs::Parse::arguments))]
+    #[tactic(auto, unfolding(crate::specs::steps::Parse::arguments))]
     fn arguments(&self, cursor: &mut Cursor<'_>) -> Result<Items<Argument>, ParseError>
         requires { Nests self.now.nest (F.pre self.now.expr) (F.post self.now.expr) }
         ensures { Reads (spec.arguments (spec.nested self.now.nest) (view cursor.old)) result (view cursor.new) }
@@ -184,7 +188,7 @@ impl<F: Fn(Global, &mut Cursor<'_>, usize) -> Result<Expr, ParseError>> Grammar<
     }
 
     /// `"(" arguments ")"`
-    #[tactic(auto, unfolding(crate::specs::Parse::called))]
+    #[tactic(auto, unfolding(crate::specs::steps::Parse::called))]
     fn called(&self, cursor: &mut Cursor<'_>) -> Result<Items<Argument>, ParseError>
         requires { Nests self.now.nest (F.pre self.now.expr) (F.post self.now.expr) }
         ensures { Reads (spec.called (spec.nested self.now.nest) (view cursor.old)) result (view cursor.new) }
@@ -198,8 +202,8 @@ impl<F: Fn(Global, &mut Cursor<'_>, usize) -> Result<Expr, ParseError>> Grammar<
     }
 
     /// `name "#" name | name "(" arguments ")" | name { part }`
-    #[tactic(auto, unfolding(crate::specs::Parse::named, crate::specs::Parse::value_ending, crate::specs::Parse::call_ending, crate::specs::Parse::path_ending))]
-    fn named(&self, cursor: &mut Cursor<'_>) -> Result<Expr, ParseError>
+    #[tactic(auto, unfolding(crate::specs::steps::Parse::named, crate::specs::steps::Parse::value_ending, crate::specs::steps::Parse::call_ending, crate::specs::steps::Parse::path_ending))]
+    fn named(&self, cursor: &mut Cursor<'_>) -> Result<Boxed<Expr>, ParseError>
         requires { Nests self.now.nest (F.pre self.now.expr) (F.post self.now.expr) }
         ensures { Reads (spec.named (spec.nested self.now.nest) (view cursor.old)) result (view cursor.new) }
     {
@@ -208,48 +212,54 @@ impl<F: Fn(Global, &mut Cursor<'_>, usize) -> Result<Expr, ParseError>> Grammar<
         if cursor.sees(TokenKind::Hash) {
             cursor.take(TokenKind::Hash)?;
             let value = identifier(self.alloc, cursor)?;
-            return Ok(Expr::Value(node_at(start, cursor.last), name, value));
+            let node = node_at(start, cursor.last);
+            return Ok(Boxed::new(self.alloc, Expr::Value(node, name, value))?);
         }
         if cursor.sees(TokenKind::OpenParenthesis) {
             let found = self.called(cursor)?;
-            return Ok(Expr::Call(node_at(start, cursor.last), name, found));
+            let node = node_at(start, cursor.last);
+            return Ok(Boxed::new(self.alloc, Expr::Call(node, name, found))?);
         }
         let parts = self.parts(cursor)?;
-        Ok(Expr::Path(Path {
+        let path = Path {
             node: node_at(start, cursor.last),
             root: Root::Name(name),
             parts,
-        }))
+        };
+        Ok(Boxed::new(self.alloc, Expr::Path(path))?)
     }
 
     /// `"(" expr ")"`
-    #[tactic(auto, unfolding(crate::specs::Parse::group))]
-    fn group(&self, cursor: &mut Cursor<'_>) -> Result<Expr, ParseError>
+    #[tactic(auto, unfolding(crate::specs::steps::Parse::group))]
+    fn group(&self, cursor: &mut Cursor<'_>) -> Result<Boxed<Expr>, ParseError>
         requires { Nests self.now.nest (F.pre self.now.expr) (F.post self.now.expr) }
         ensures { Reads (spec.group (spec.nested self.now.nest) (view cursor.old)) result (view cursor.new) }
     {
+        let start = cursor.start();
         let depth = cursor.depth;
         cursor.enter(TokenKind::OpenParenthesis)?;
         let inner = self.expr(cursor)?;
         cursor.take(TokenKind::CloseParenthesis)?;
         cursor.depth = depth;
-        Ok(inner)
+        let node = node_at(start, cursor.last);
+        Ok(Boxed::new(self.alloc, Expr::Parenthesized(node, inner))?)
     }
 
-    #[tactic(auto, unfolding(crate::specs::Parse::placed))]
-    fn placed(&self, cursor: &mut Cursor<'_>) -> Result<Expr, ParseError>
+    #[tactic(auto, unfolding(crate::specs::steps::Parse::placed))]
+    fn placed(&self, cursor: &mut Cursor<'_>) -> Result<Boxed<Expr>, ParseError>
         requires { Nests self.now.nest (F.pre self.now.expr) (F.post self.now.expr) }
         ensures { Reads (spec.placed (spec.nested self.now.nest) (view cursor.old)) result (view cursor.new) }
     {
         if cursor.sees(TokenKind::Address) {
-            Ok(Expr::Path(self.located(cursor)?))
+            let path = self.located(cursor)?;
+            Ok(Boxed::new(self.alloc, Expr::Path(path))?)
         } else {
             self.named(cursor)
         }
     }
 
-    #[tactic(auto, unfolding(crate::specs::Parse::bracketed))]
-    fn bracketed(&self, cursor: &mut Cursor<'_>) -> Result<Expr, ParseError>
+    #[tactic(auto, unfolding(crate::specs::steps::Parse::bracketed))]
+    fn bracketed(&self, cursor: &mut Cursor<'_>) -> Result<Boxed<Expr>, ParseError>
         requires { Nests self.now.nest (F.pre self.now.expr) (F.post self.now.expr) }
         ensures { Reads (spec.bracketed (spec.nested self.now.nest) (view cursor.old)) result (view cursor.new) }
     {
@@ -260,23 +270,23 @@ impl<F: Fn(Global, &mut Cursor<'_>, usize) -> Result<Expr, ParseError>> Grammar<
         }
     }
 
-    #[tactic(auto, unfolding(crate::specs::Parse::true_or_other))]
-    fn true_or_other(&self, cursor: &mut Cursor<'_>) -> Result<Expr, ParseError>
+    #[tactic(auto, unfolding(crate::specs::steps::Parse::true_or_other))]
+    fn true_or_other(&self, cursor: &mut Cursor<'_>) -> Result<Boxed<Expr>, ParseError>
         requires { Nests self.now.nest (F.pre self.now.expr) (F.post self.now.expr) }
         ensures { Reads (spec.true_or_other (spec.nested self.now.nest) (view cursor.old)) result (view cursor.new) }
     {
         if cursor.sees(TokenKind::True) {
-            truth(cursor, TokenKind::True, true)
+            truth(self.alloc, cursor, TokenKind::True, true)
         } else if cursor.sees(TokenKind::False) {
-            truth(cursor, TokenKind::False, false)
+            truth(self.alloc, cursor, TokenKind::False, false)
         } else {
             self.bracketed(cursor)
         }
     }
 
     /// A primary, but for a number.
-    #[tactic(auto, unfolding(crate::specs::Parse::other))]
-    fn other(&self, cursor: &mut Cursor<'_>) -> Result<Expr, ParseError>
+    #[tactic(auto, unfolding(crate::specs::steps::Parse::other))]
+    fn other(&self, cursor: &mut Cursor<'_>) -> Result<Boxed<Expr>, ParseError>
         requires { Nests self.now.nest (F.pre self.now.expr) (F.post self.now.expr) }
         ensures { Reads (spec.other (spec.nested self.now.nest) (view cursor.old)) result (view cursor.new) }
     {
@@ -289,8 +299,8 @@ impl<F: Fn(Global, &mut Cursor<'_>, usize) -> Result<Expr, ParseError>> Grammar<
         }
     }
 
-    #[tactic(auto, unfolding(crate::specs::Parse::primary))]
-    fn primary(&self, cursor: &mut Cursor<'_>) -> Result<Expr, ParseError>
+    #[tactic(auto, unfolding(crate::specs::steps::Parse::primary))]
+    fn primary(&self, cursor: &mut Cursor<'_>) -> Result<Boxed<Expr>, ParseError>
         requires { Nests self.now.nest (F.pre self.now.expr) (F.post self.now.expr) }
         ensures { Reads (spec.primary (spec.nested self.now.nest) (view cursor.old)) result (view cursor.new) }
     {
@@ -302,8 +312,8 @@ impl<F: Fn(Global, &mut Cursor<'_>, usize) -> Result<Expr, ParseError>> Grammar<
     }
 
     /// `"-" primary`. A minus directly before a number makes one literal.
-    #[tactic(auto, unfolding(crate::specs::Parse::signed, crate::specs::Parse::literal_ending, crate::specs::Parse::negated_ending))]
-    fn signed(&self, cursor: &mut Cursor<'_>) -> Result<Expr, ParseError>
+    #[tactic(auto, unfolding(crate::specs::steps::Parse::signed, crate::specs::steps::Parse::literal_ending, crate::specs::steps::Parse::negated_ending))]
+    fn signed(&self, cursor: &mut Cursor<'_>) -> Result<Boxed<Expr>, ParseError>
         requires { Nests self.now.nest (F.pre self.now.expr) (F.post self.now.expr) }
         ensures { Reads (spec.signed (spec.nested self.now.nest) (view cursor.old)) result (view cursor.new) }
     {
@@ -311,7 +321,8 @@ impl<F: Fn(Global, &mut Cursor<'_>, usize) -> Result<Expr, ParseError>> Grammar<
         cursor.take(TokenKind::Minus)?;
         if cursor.sees(TokenKind::Number) {
             let text = word(self.alloc, cursor, TokenKind::Number)?;
-            return Ok(Expr::Number(node_at(start, cursor.last), true, text));
+            let node = node_at(start, cursor.last);
+            return Ok(Boxed::new(self.alloc, Expr::Number(node, true, text))?);
         }
         cursor.depth += 1;
         let operand = self.other(cursor)?;
@@ -320,8 +331,8 @@ impl<F: Fn(Global, &mut Cursor<'_>, usize) -> Result<Expr, ParseError>> Grammar<
     }
 
     /// `NOT primary`
-    #[tactic(auto, unfolding(crate::specs::Parse::inverted))]
-    fn inverted(&self, cursor: &mut Cursor<'_>) -> Result<Expr, ParseError>
+    #[tactic(auto, unfolding(crate::specs::steps::Parse::inverted))]
+    fn inverted(&self, cursor: &mut Cursor<'_>) -> Result<Boxed<Expr>, ParseError>
         requires { Nests self.now.nest (F.pre self.now.expr) (F.post self.now.expr) }
         ensures { Reads (spec.inverted (spec.nested self.now.nest) (view cursor.old)) result (view cursor.new) }
     {
@@ -332,8 +343,8 @@ impl<F: Fn(Global, &mut Cursor<'_>, usize) -> Result<Expr, ParseError>> Grammar<
         Ok(unary(self.alloc, node, UnaryOperator::Not, operand)?)
     }
 
-    #[tactic(auto, unfolding(crate::specs::Parse::unary))]
-    fn unary(&self, cursor: &mut Cursor<'_>) -> Result<Expr, ParseError>
+    #[tactic(auto, unfolding(crate::specs::steps::Parse::unary))]
+    fn unary(&self, cursor: &mut Cursor<'_>) -> Result<Boxed<Expr>, ParseError>
         requires { Nests self.now.nest (F.pre self.now.expr) (F.post self.now.expr) }
         ensures { Reads (spec.unary (spec.nested self.now.nest) (view cursor.old)) result (view cursor.new) }
     {
@@ -348,8 +359,8 @@ impl<F: Fn(Global, &mut Cursor<'_>, usize) -> Result<Expr, ParseError>> Grammar<
 
     /// Operators of the ranks below the level. The first operand is read once, and not again for each rank, so that expressions may nest deep.
     #[cycle(levels)]
-    #[tactic(auto, unfolding(crate::specs::Parse::level))]
-    fn level(&self, cursor: &mut Cursor<'_>, level: u8) -> Result<Expr, ParseError>
+    #[tactic(auto, unfolding(crate::specs::steps::Parse::level))]
+    fn level(&self, cursor: &mut Cursor<'_>, level: u8) -> Result<Boxed<Expr>, ParseError>
         requires { Nests self.now.nest (F.pre self.now.expr) (F.post self.now.expr) }
         ensures { Reads (spec.level (spec.nested self.now.nest) level (view cursor.old)) result (view cursor.new) }
     {
@@ -363,14 +374,14 @@ impl<F: Fn(Global, &mut Cursor<'_>, usize) -> Result<Expr, ParseError>> Grammar<
 
     /// `{ operator operand }` of one rank, behind a first operand.
     #[cycle(levels)]
-    #[tactic(auto, unfolding(crate::specs::Parse::chain))]
+    #[tactic(auto, unfolding(crate::specs::steps::Parse::chain))]
     fn chain(
         &self,
         cursor: &mut Cursor<'_>,
         level: u8,
         start: usize,
-        first: Expr,
-    ) -> Result<Expr, ParseError>
+        first: Boxed<Expr>,
+    ) -> Result<Boxed<Expr>, ParseError>
         requires { Nests self.now.nest (F.pre self.now.expr) (F.post self.now.expr) }
         ensures { Reads (spec.chain (spec.nested self.now.nest) level start first (view cursor.old)) result (view cursor.new) }
     {
@@ -394,8 +405,8 @@ impl<F: Fn(Global, &mut Cursor<'_>, usize) -> Result<Expr, ParseError>> Grammar<
     }
 
     /// An expression. Its operators count in the depth up to its end.
-    #[tactic(auto, unfolding(crate::specs::Parse::whole))]
-    pub fn whole(&self, cursor: &mut Cursor<'_>) -> Result<Expr, ParseError>
+    #[tactic(auto, unfolding(crate::specs::steps::Parse::whole))]
+    pub fn whole(&self, cursor: &mut Cursor<'_>) -> Result<Boxed<Expr>, ParseError>
         requires { Nests self.now.nest (F.pre self.now.expr) (F.post self.now.expr) }
         ensures { Reads (spec.whole (spec.nested self.now.nest) (view cursor.old)) result (view cursor.new) }
     {
@@ -411,7 +422,7 @@ pub fn expression_at(
     alloc: Global,
     cursor: &mut Cursor<'_>,
     nest: usize,
-) -> Result<Expr, ParseError>
+) -> Result<Boxed<Expr>, ParseError>
     ensures { Reads (spec.nested nest (view cursor.old)) result (view cursor.new) }
 {
     if nest == 0 {

@@ -2,18 +2,18 @@
 
 ghost use Rattle.std.specs.Prelude.{◌≡◌};
 ghost use Rattle.token_grammar.specs.Input.{Reads, ReadsTo, view};
-ghost use Rattle.st_expr.specs.Parse as spec;
-ghost use Rattle.st_expr.specs.Nests.{Nests};
+ghost use Rattle.st_expr.specs.steps.Parse as spec;
+ghost use Rattle.st_expr.specs.steps.Nests.{Nests};
 
 use crate::expressions::Grammar;
 use crate::names::{address, identifier, node_at};
-use tree_items::Items;
 use st_tree::{Expr, Part, Path, Root};
 use std::alloc::Global;
 use token_grammar::{Cursor, ParseError, TokenKind};
+use tree_items::{Boxed, Items};
 
 /// Whether a part of a path comes next.
-#[tactic(auto, unfolding(crate::specs::Parse::sees_part))]
+#[tactic(auto, unfolding(crate::specs::steps::Parse::sees_part))]
 fn sees_part(cursor: &Cursor<'_>) -> bool
     ensures { result ≡ spec.sees_part (view cursor.now).rest }
 {
@@ -21,7 +21,7 @@ fn sees_part(cursor: &Cursor<'_>) -> bool
 }
 
 /// `"." name`
-#[tactic(auto, unfolding(crate::specs::Parse::field))]
+#[tactic(auto, unfolding(crate::specs::steps::Parse::field))]
 fn field(alloc: Global, cursor: &mut Cursor<'_>) -> Result<Part, ParseError>
     ensures { Reads (spec.field (view cursor.old)) result (view cursor.new) }
 {
@@ -29,26 +29,26 @@ fn field(alloc: Global, cursor: &mut Cursor<'_>) -> Result<Part, ParseError>
     Ok(Part::Field(identifier(alloc, cursor)?))
 }
 
-impl<F: Fn(Global, &mut Cursor<'_>, usize) -> Result<Expr, ParseError>> Grammar<F> {
+impl<F: Fn(Global, &mut Cursor<'_>, usize) -> Result<Boxed<Expr>, ParseError>> Grammar<F> {
     /// `"," expr`
-    #[tactic(auto, unfolding(crate::specs::Parse::more_exprs))]
+    #[tactic(auto, unfolding(crate::specs::steps::Parse::more_exprs))]
     fn more_exprs(&self, cursor: &mut Cursor<'_>, found: &mut Items<Expr>) -> Result<(), ParseError>
         requires { Nests self.now.nest (F.pre self.now.expr) (F.post self.now.expr) }
         ensures { ReadsTo (spec.more_exprs (spec.nested self.now.nest) found.old (view cursor.old)) result found.new (view cursor.new) }
     {
         cursor.take(TokenKind::Comma)?;
-        found.push(self.expr(cursor)?)?;
+        found.push(self.expr(cursor)?.into_inner())?;
         Ok(())
     }
 
     /// `expr { "," expr }`
-    #[tactic(auto, unfolding(crate::specs::Parse::exprs))]
+    #[tactic(auto, unfolding(crate::specs::steps::Parse::exprs))]
     fn exprs(&self, cursor: &mut Cursor<'_>) -> Result<Items<Expr>, ParseError>
         requires { Nests self.now.nest (F.pre self.now.expr) (F.post self.now.expr) }
         ensures { Reads (spec.exprs (spec.nested self.now.nest) (view cursor.old)) result (view cursor.new) }
     {
         let mut found = Items::new(self.alloc);
-        found.push(self.expr(cursor)?)?;
+        found.push(self.expr(cursor)?.into_inner())?;
         for _turn in 0..cursor.rest.len() {
             if !cursor.sees(TokenKind::Comma) {
                 return Ok(found);
@@ -59,7 +59,7 @@ impl<F: Fn(Global, &mut Cursor<'_>, usize) -> Result<Expr, ParseError>> Grammar<
     }
 
     /// `"[" expr { "," expr } "]"`
-    #[tactic(auto, unfolding(crate::specs::Parse::index))]
+    #[tactic(auto, unfolding(crate::specs::steps::Parse::index))]
     fn index(&self, cursor: &mut Cursor<'_>) -> Result<Part, ParseError>
         requires { Nests self.now.nest (F.pre self.now.expr) (F.post self.now.expr) }
         ensures { Reads (spec.index (spec.nested self.now.nest) (view cursor.old)) result (view cursor.new) }
@@ -73,7 +73,7 @@ impl<F: Fn(Global, &mut Cursor<'_>, usize) -> Result<Expr, ParseError>> Grammar<
         Ok(Part::Index(node_at(start, cursor.last), found))
     }
 
-    #[tactic(auto, unfolding(crate::specs::Parse::one_part))]
+    #[tactic(auto, unfolding(crate::specs::steps::Parse::one_part))]
     fn one_part(&self, cursor: &mut Cursor<'_>) -> Result<Part, ParseError>
         requires { Nests self.now.nest (F.pre self.now.expr) (F.post self.now.expr) }
         ensures { Reads (spec.one_part (spec.nested self.now.nest) (view cursor.old)) result (view cursor.new) }
@@ -85,7 +85,7 @@ impl<F: Fn(Global, &mut Cursor<'_>, usize) -> Result<Expr, ParseError>> Grammar<
         }
     }
 
-    #[tactic(auto, unfolding(crate::specs::Parse::more_parts))]
+    #[tactic(auto, unfolding(crate::specs::steps::Parse::more_parts))]
     fn more_parts(&self, cursor: &mut Cursor<'_>, found: &mut Items<Part>) -> Result<(), ParseError>
         requires { Nests self.now.nest (F.pre self.now.expr) (F.post self.now.expr) }
         ensures { ReadsTo (spec.more_parts (spec.nested self.now.nest) found.old (view cursor.old)) result found.new (view cursor.new) }
@@ -95,7 +95,7 @@ impl<F: Fn(Global, &mut Cursor<'_>, usize) -> Result<Expr, ParseError>> Grammar<
     }
 
     /// `{ "." name | "[" expr { "," expr } "]" }`
-    #[tactic(auto, unfolding(crate::specs::Parse::parts))]
+    #[tactic(auto, unfolding(crate::specs::steps::Parse::parts))]
     pub fn parts(&self, cursor: &mut Cursor<'_>) -> Result<Items<Part>, ParseError>
         requires { Nests self.now.nest (F.pre self.now.expr) (F.post self.now.expr) }
         ensures { Reads (spec.parts (spec.nested self.now.nest) (view cursor.old)) result (view cursor.new) }
@@ -110,7 +110,7 @@ impl<F: Fn(Global, &mut Cursor<'_>, usize) -> Result<Expr, ParseError>> Grammar<
         Ok(found)
     }
 
-    #[tactic(auto, unfolding(crate::specs::Parse::any_root))]
+    #[tactic(auto, unfolding(crate::specs::steps::Parse::any_root))]
     fn any_root(&self, cursor: &mut Cursor<'_>) -> Result<Root, ParseError>
         ensures { Reads (spec.any_root (view cursor.old)) result (view cursor.new) }
     {
@@ -122,7 +122,7 @@ impl<F: Fn(Global, &mut Cursor<'_>, usize) -> Result<Expr, ParseError>> Grammar<
     }
 
     /// `( name | address ) { part }`
-    #[tactic(auto, unfolding(crate::specs::Parse::path))]
+    #[tactic(auto, unfolding(crate::specs::steps::Parse::path))]
     pub fn path(&self, cursor: &mut Cursor<'_>) -> Result<Path, ParseError>
         requires { Nests self.now.nest (F.pre self.now.expr) (F.post self.now.expr) }
         ensures { Reads (spec.path (spec.nested self.now.nest) (view cursor.old)) result (view cursor.new) }
@@ -138,7 +138,7 @@ impl<F: Fn(Global, &mut Cursor<'_>, usize) -> Result<Expr, ParseError>> Grammar<
     }
 
     /// `address { part }`
-    #[tactic(auto, unfolding(crate::specs::Parse::located))]
+    #[tactic(auto, unfolding(crate::specs::steps::Parse::located))]
     pub fn located(&self, cursor: &mut Cursor<'_>) -> Result<Path, ParseError>
         requires { Nests self.now.nest (F.pre self.now.expr) (F.post self.now.expr) }
         ensures { Reads (spec.located (spec.nested self.now.nest) (view cursor.old)) result (view cursor.new) }

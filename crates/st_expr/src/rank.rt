@@ -2,7 +2,7 @@
 
 ghost use Rattle.std.specs.Prelude.{◌≡◌};
 ghost use Rattle.token_grammar.specs.Input.{Reads, view};
-ghost use Rattle.st_expr.specs.Parse as spec;
+ghost use Rattle.st_expr.specs.steps.Parse as spec;
 ghost use Rattle.st_expr.specs.Trees as trees;
 
 use st_tree::BinaryOperator;
@@ -37,7 +37,7 @@ pub fn rank_of(level: u8) -> Rank
 }
 
 /// Takes an operator of this kind.
-#[tactic(auto, unfolding(crate::specs::Parse::operator_as))]
+#[tactic(auto, unfolding(crate::specs::steps::Parse::operator_as))]
 fn operator_as(
     cursor: &mut Cursor<'_>,
     kind: TokenKind,
@@ -50,7 +50,7 @@ fn operator_as(
 }
 
 /// Takes an operator of this rank.
-#[tactic(auto, unfolding(crate::specs::Parse::operators))]
+#[tactic(auto, unfolding(crate::specs::steps::Parse::operators))]
 pub fn operators(cursor: &mut Cursor<'_>, rank: Rank) -> Result<BinaryOperator, ParseError>
     ensures { Reads (spec.operators rank (view cursor.old)) result (view cursor.new) }
 {
@@ -106,7 +106,7 @@ pub fn operators(cursor: &mut Cursor<'_>, rank: Rank) -> Result<BinaryOperator, 
 }
 
 /// Whether an operator of this rank comes next.
-#[tactic(auto, unfolding(crate::specs::Parse::sees_operator))]
+#[tactic(auto, unfolding(crate::specs::steps::Parse::sees_operator))]
 pub fn sees_operator(cursor: &Cursor<'_>, rank: Rank) -> bool
     ensures { result ≡ spec.sees_operator rank (view cursor.now).rest }
 {

@@ -1,7 +1,7 @@
 use Rattle.std.proofs.Common.{◌≡◌, ap, arith}
 use Rattle.token_grammar.specs.Input.{view}
 use Rattle.token_grammar.proofs.Turns.{deeper}
-use Rattle.st_expr.specs.Parse.{nested}
+use Rattle.st_expr.specs.steps.Parse.{nested}
 use Rattle.st_expr.proofs.expressions.+expression_at.Goals as goal
 
 pub returns-then-nest-eq0 : goal.returns-then-nest-eq0

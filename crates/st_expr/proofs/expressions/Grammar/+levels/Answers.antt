@@ -3,7 +3,7 @@ use Rattle.std.proofs.lemmas.Grind.{common_steps}
 use Rattle.token_grammar.specs.Input.{view, loop, repeated}
 use Rattle.token_grammar.proofs.Turns.{one_more, no_more}
 use Rattle.st_expr.specs.Trees.{rank_of}
-use Rattle.st_expr.specs.Parse.{nested, level, chain, step, operators, sees_operator}
+use Rattle.st_expr.specs.steps.Parse.{nested, level, chain, step, operators, sees_operator}
 use Rattle.st_expr.proofs.Levels.{refused_above, next_level}
 use Rattle.st_expr.proofs.expressions.Grammar.+levels.Goals as goal
 

@@ -1,7 +1,7 @@
 use Rattle.std.proofs.Common.{◌≡◌, ◌-◌, ◌+◌, Ok}
 use Rattle.token_grammar.specs.Input.{view, loop}
 use Rattle.st_expr.specs.Trees.{rank_of}
-use Rattle.st_expr.specs.Parse.{nested, level, chain, step, operators, sees_operator}
+use Rattle.st_expr.specs.steps.Parse.{nested, level, chain, step, operators, sees_operator}
 use Rattle.st_expr.proofs.expressions.Grammar.+levels.Given as goal
 
 abbrev pub decreases-level : goal.decreases-level

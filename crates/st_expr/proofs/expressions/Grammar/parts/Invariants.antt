@@ -1,6 +1,6 @@
 use Rattle.std.proofs.Common.{◌≡◌, ◌-◌}
 use Rattle.token_grammar.specs.Input.{view, loop}
-use Rattle.st_expr.specs.Parse.{nested, parts, more_parts, sees_part}
+use Rattle.st_expr.specs.steps.Parse.{nested, parts, more_parts, sees_part}
 use Rattle.st_expr.proofs.expressions.Grammar.parts.Given as goal
 
 abbrev pub invariant-loop-turn : goal.invariant-loop-turn

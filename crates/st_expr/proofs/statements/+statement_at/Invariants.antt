@@ -1,4 +1,0 @@
-use Rattle.st_expr.proofs.statements.+statement_at.Given as goal
-
-abbrev pub decreases-statement_at : goal.decreases-statement_at
-decreases-statement_at l = l.nest
