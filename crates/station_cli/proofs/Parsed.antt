@@ -1,21 +1,22 @@
--- What the parts of the analysis may rely on of a tree, and where a refusal stands.
-use Rattle.std.proofs.Common.{◌≡◌, ℕ, zero, ◌≤◌, List, [], ◌∷◌, ◌++◌, length, refl, ap, arith}
-use Rattle.std.specs.List.{Contains, filter}
+-- What the parts of the analysis may rely on of a tree.
+use Rattle.std.proofs.Common.{◌≡◌, ℕ, ◌≤◌, List, [], ◌∷◌, ◌++◌, length, Some, sym, ap, subst, ◌∙◌}
+use Rattle.std.specs.Prelude.{flat_map}
+use Rattle.std.specs.List.{Contains}
+use Rattle.std.proofs.lemmas.Option.{option_and_then_some}
+use Rattle.std.proofs.lemmas.List.{append-nil}
 use Rattle.token_grammar.specs.declared.token.Token.{Token}
-use Rattle.token_grammar.specs.Texts.{Lexeme, lexeme, lexemes}
-use Rattle.st_lexer.specs.Placed.{IsIn}
-use Rattle.first_form.specs.FirstForm.{IsTree}
-use Rattle.token_grammar.specs.Kept.{is_kept, place_at}
-use Rattle.first_form.specs.Laws.{AreIn, SoundTree}
-use Rattle.first_form.proofs.Spelled.{kept_among}
+use Rattle.st_tree.specs.declared.node.Node.{Node}
+use Rattle.st_tree.specs.declared.file.SourceTree.{SourceTree as SourceFile}
+use Rattle.st_tree.specs.Feeds.{feeds_from}
+use Rattle.st_units.specs.SourceTrees.{IsSourceTree}
+use Rattle.first_form.specs.Laws.{SoundForm}
+use Rattle.first_form.specs.Bare.{bare_unit}
+use Rattle.first_form.specs.Nodes.{unit_nodes, nodes_of}
+use Rattle.first_form.specs.FirstForm.{only_unit, unit_of, IsFirstForm}
 use Rattle.first_form.specs.declared.tree.SourceTree.{SourceTree}
+use Rattle.station_cli.specs.Report.{IsTree}
 use Rattle.station_cli.specs.Parsing.{IsAnalysable}
-use Rattle.cycle_analysis.proofs.Lists.{later_in}
 
-are_in : (text : List ℕ) (tokens : List Token) → ((t : Token) → Contains tokens t → IsIn text t) → AreIn text tokens
-are_in text tokens h t there = let i = h t there in (omega (arith, i.some), i.within)
-
-pub analysable : SoundTree → (text : List ℕ) (tokens : List Token) (tree : SourceTree) → ((t : Token) → Contains tokens t → IsIn text t) → length text ≤ 1048576 → IsTree text tokens tree → IsAnalysable text tree
-analysable law text tokens tree within limit is =
-    let s = law text tokens tree is (are_in text tokens within) in
-    record { unit = is.unit; units = is.units; uses = s.0; numbered = is.numbered; feeds = is.feeds; within = s.1; short = limit }
+feeds_are : (text : List ℕ) (tokens : List Token) (file : SourceFile) → IsSourceTree text tokens file
+    → file.feeds ≡ feeds_from 0 text
+feeds_are text tokens file is = ap (λ (f : SourceFile). f.feeds) is.tree_is
