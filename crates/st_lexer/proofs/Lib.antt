@@ -24,3 +24,4 @@ mod Cuts
 mod Utf8
 mod CutLaws
 mod Places
+mod PartValues

@@ -4,6 +4,7 @@ ghost use Rattle.std.specs.Prelude.{◌≡◌, ◌≤◌, ◌+◌, ◌*◌, true
 ghost use Rattle.st_lexer.specs.Faulty as faulty;
 ghost use Rattle.st_lexer.specs.Front as fronts;
 ghost use Rattle.st_lexer.specs.Bytes as spec;
+ghost use Rattle.st_lexer.specs.steps.Readings as readings;
 
 use crate::bytes::{begins_digit, begins_with, word_length, worth};
 use crate::words::{is_bool_word, is_truth};
@@ -67,10 +68,18 @@ fn is_fraction(bytes: &[u8]) -> bool
 }
 
 /// Whether the bytes are digits in the base, single underscores between them, of a number below 2^128.
-#[tactic(auto, unfolding(crate::specs::Front::goes_on))]
 fn is_numeral(base: u8, bytes: &[u8]) -> bool
     requires { base ≤ 16 }
     ensures { result ≡ fronts.goes_on base true 0 bytes.now }
+{
+    numeral_of(base, bytes).is_some()
+}
+
+/// The number that the bytes are, where they are digits in the base, single underscores between them, of one below 2^128.
+#[tactic(auto, unfolding(crate::specs::Front::goes_on))]
+fn numeral_of(base: u8, bytes: &[u8]) -> Option<u128>
+    requires { base ≤ 16 }
+    ensures { result ≡ readings.numeral_of base bytes.now }
 {
     let mut after = true;
     let mut value = 0u128;
@@ -78,23 +87,33 @@ fn is_numeral(base: u8, bytes: &[u8]) -> bool
     'digit: while let Some((byte, others)) = rest.split_first() {
         if *byte == b'_' {
             if after {
-                return false;
+                return None;
             }
             after = true;
         } else {
             let digit = worth(*byte);
             if digit >= base {
-                return false;
+                return None;
             }
-            match one_more(base, value, digit) {
-                None => return false,
-                Some(more) => value = more,
-            }
+            value = one_more(base, value, digit)?;
             after = false;
         }
         rest = others;
     }
-    !after
+    if after { None } else { Some(value) }
+}
+
+/// The value of a text that is a number as a whole.
+#[tactic(auto, unfolding(crate::specs::steps::Readings::number_of))]
+pub(crate) fn number_of(text: &[u8]) -> Option<u128>
+    ensures { result ≡ readings.number_of text.now }
+{
+    match text {
+        [b'2', b'#', digits @ ..] => numeral_of(2, digits),
+        [b'8', b'#', digits @ ..] => numeral_of(8, digits),
+        [b'1', b'6', b'#', digits @ ..] => numeral_of(16, digits),
+        _ => numeral_of(10, text),
+    }
 }
 
 /// The value with one more digit, where it stays below 2^128.

@@ -1,0 +1,247 @@
+// The values of numbers, typed numbers, times and addresses.
+
+ghost use Rattle.std.specs.Prelude.{◌≡◌, ◌<◌, ◌^◌, IfSome, IsSome};
+ghost use Rattle.st_lexer.specs.Texts.{IsNumber, IsTyped, IsAddress};
+ghost use Rattle.st_lexer.specs.Times.{IsTime};
+ghost use Rattle.st_lexer.specs.Values as spec;
+ghost use Rattle.st_lexer.specs.Front.{found_in};
+ghost use Rattle.st_lexer.specs.steps.Readings as readings;
+
+use crate::addresses::numbers_at;
+use crate::bytes::word_length;
+use crate::numbers::number_of;
+use crate::times::time_of;
+use crate::words::{is_same, type_of};
+use iec_tables::elem::Elem;
+use iec_tables::letters::raise;
+
+/// The value of a typed number: the type that is named before the `#`, whether a minus is written, and the number
+/// behind it; TRUE is 1 and FALSE is 0. Whether it lies in the range of the type isn't judged here.
+#[derive(Clone, Copy, Debug, PartialEq, Eq)]
+pub struct TypedValue {
+    pub elem: Elem,
+    pub negative: bool,
+    pub size: u128,
+}
+
+/// The area of an address: inputs (I), outputs (Q) or memory (M).
+#[derive(Clone, Copy, Debug, PartialEq, Eq)]
+pub enum Area {
+    Input,
+    Output,
+    Memory,
+}
+
+/// The width of the variable at an address: 1 bit (X, also where no letter is written), 8 (B), 16 (W), 32 (D) or
+/// 64 bits (L).
+#[derive(Clone, Copy, Debug, PartialEq, Eq)]
+pub enum Width {
+    Bit,
+    Byte,
+    Word,
+    DoubleWord,
+    LongWord,
+}
+
+impl Width {
+    /// The bit string type of this width, which a variable at an address has where none is declared.
+    pub fn elem(self) -> Elem
+        ensures { result ≡ spec.elem_of self }
+    {
+        match self {
+            Width::Bit => Elem::Bool,
+            Width::Byte => Elem::Byte,
+            Width::Word => Elem::Word,
+            Width::DoubleWord => Elem::Dword,
+            Width::LongWord => Elem::Lword,
+        }
+    }
+}
+
+/// The parts of an address: its area, its width, and its numbers as they are written, which are decimal digits with
+/// single dots between the numbers. The text of an address with its letters raised tells it from others, so `%I1`,
+/// `%IX1` and `%IX01` are three.
+#[derive(Clone, Copy, Debug, PartialEq, Eq)]
+pub struct AddressValue<'t> {
+    pub area: Area,
+    pub width: Width,
+    pub numbers: &'t [u8],
+}
+
+/// The value of a number; none where the text isn't one.
+pub fn number_value(text: &[u8]) -> Option<u128>
+    ensures value { IfSome result (λ value. spec.IsNumberValue text.now value) }
+    ensures some { IsNumber text.now → IsSome result }
+{
+    number_of(text)
+}
+
+/// The value of a typed number; none where the text isn't one.
+pub fn typed_value(text: &[u8]) -> Option<TypedValue>
+    ensures value { IfSome result (λ value. spec.IsTypedValue text.now value) }
+    ensures some { IsTyped text.now → IsSome result }
+{
+    typed_of(text)
+}
+
+/// The milliseconds of a time; none where the text isn't one.
+pub fn time_value(text: &[u8]) -> Option<i64>
+    ensures value { IfSome result (λ value. spec.IsTimeValue text.now value) }
+    ensures some { IsTime text.now → IsSome result }
+{
+    time_of(text)
+}
+
+/// The parts of an address; none where the text isn't one.
+pub fn address_value<'t>(text: &'t [u8]) -> Option<AddressValue<'t>>
+    ensures value { IfSome result
+        (λ value. spec.IsAddressValue text.now value.area value.width value.numbers.now) }
+    ensures some { IsAddress text.now → IsSome result }
+{
+    address_of(text)
+}
+
+/// The number of that size, with a minus or none; none where it is outside -2^127 + 1 to 2^127 - 1, which is outside
+/// each type.
+pub fn with_sign(negative: bool, size: u128) -> Option<i128>
+    ensures value { IfSome result (λ number. number ≡ spec.with_sign negative size) }
+    ensures some { size < 2 ^ 127 → IsSome result }
+{
+    if size >= 1 << 127 {
+        return None;
+    }
+    let number = size as i128;
+    Some(if negative { -number } else { number })
+}
+
+/// The value of a text that is a typed number as a whole.
+#[tactic(auto, unfolding(crate::specs::steps::Readings::typed_of))]
+fn typed_of(text: &[u8]) -> Option<TypedValue>
+    ensures { result ≡ readings.typed_of text.now }
+{
+    let length = word_length(text);
+    let elem = type_of(&text[..length])?;
+    match &text[length..] {
+        [b'#', rest @ ..] => behind_type(elem, rest),
+        _ => None,
+    }
+}
+
+/// The value that stands behind a type and `#`: a truth value, or a number with a sign or none.
+#[tactic(auto, unfolding(crate::specs::steps::Readings::behind_type))]
+fn behind_type(elem: Elem, rest: &[u8]) -> Option<TypedValue>
+    ensures { result ≡ readings.behind_type elem rest.now }
+{
+    match truth_of(elem, rest) {
+        Some(size) => Some(TypedValue {
+            elem,
+            negative: false,
+            size,
+        }),
+        None => signed_of(elem, rest),
+    }
+}
+
+/// The number of TRUE or FALSE behind BOOL.
+fn truth_of(elem: Elem, word: &[u8]) -> Option<u128>
+    ensures { result ≡ readings.truth_of elem word.now }
+{
+    if elem != Elem::Bool {
+        return None;
+    }
+    if is_same(word, b"TRUE") {
+        Some(1)
+    } else if is_same(word, b"FALSE") {
+        Some(0)
+    } else {
+        None
+    }
+}
+
+/// A number with a sign or none.
+fn signed_of(elem: Elem, bytes: &[u8]) -> Option<TypedValue>
+    ensures { result ≡ readings.signed_of elem bytes.now }
+{
+    match bytes {
+        [b'-', digits @ ..] => of_number(elem, true, digits),
+        [b'+', digits @ ..] => of_number(elem, false, digits),
+        _ => of_number(elem, false, bytes),
+    }
+}
+
+/// A number with that sign, of a type.
+fn of_number(elem: Elem, negative: bool, digits: &[u8]) -> Option<TypedValue>
+    ensures { result ≡ readings.of_number elem negative (readings.number_of digits.now) }
+{
+    Some(TypedValue {
+        elem,
+        negative,
+        size: number_of(digits)?,
+    })
+}
+
+/// The parts of a text that is an address as a whole.
+fn address_of<'t>(text: &'t [u8]) -> Option<AddressValue<'t>>
+    ensures { readings.seen result ≡ readings.address_of text.now }
+{
+    match text {
+        [b'%', area, rest @ ..] => located(area_of(*area)?, rest),
+        _ => None,
+    }
+}
+
+/// The address in that area of a width or none and numbers.
+fn located<'t>(area: Area, bytes: &'t [u8]) -> Option<AddressValue<'t>>
+    ensures { readings.seen result ≡ readings.located area bytes.now }
+{
+    match bytes.split_first() {
+        None => None,
+        Some((first, numbers)) => match width_of(*first) {
+            Some(width) => numbered(area, width, numbers),
+            None => numbered(area, Width::Bit, bytes),
+        },
+    }
+}
+
+/// The address of these numbers, where they are some.
+fn numbered<'t>(area: Area, width: Width, numbers: &'t [u8]) -> Option<AddressValue<'t>>
+    ensures { readings.seen result ≡ readings.numbered area width numbers.now }
+{
+    match numbers_at(numbers) {
+        Some(length) if length == numbers.len() => Some(AddressValue {
+            area,
+            width,
+            numbers,
+        }),
+        _ => None,
+    }
+}
+
+/// The area of a letter.
+fn area_of(letter: u8) -> Option<Area>
+    ensures { result ≡ readings.area_of letter }
+{
+    match raise(letter) {
+        b'I' => Some(Area::Input),
+        b'Q' => Some(Area::Output),
+        b'M' => Some(Area::Memory),
+        _ => None,
+    }
+}
+
+/// The width of a letter.
+fn width_of(letter: u8) -> Option<Width>
+    ensures { result ≡ readings.width_of letter }
+{
+    match raise(letter) {
+        b'X' => Some(Width::Bit),
+        b'B' => Some(Width::Byte),
+        b'W' => Some(Width::Word),
+        b'D' => Some(Width::DoubleWord),
+        b'L' => Some(Width::LongWord),
+        _ => None,
+    }
+}
+
+/// Each token that is a number, a typed number, a time or an address has exactly one value.
+pub fn value_laws() {}
