@@ -1,4 +1,5 @@
 mod Tests
+mod Tables
 mod Spaced
 mod Closing
 mod Keywords
@@ -25,3 +26,6 @@ mod Utf8
 mod CutLaws
 mod Places
 mod PartValues
+mod NumberValues
+mod ByReading
+mod TypedValues

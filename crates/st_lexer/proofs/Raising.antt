@@ -1,5 +1,5 @@
 -- What reads a time reads the same of letters in either case.
-use Rattle.std.proofs.Common.{◌≡◌, ℕ, zero, suc, ◌+◌, ◌-◌, ◌*◌, ◌^◌, Bool, true, false, cond, ◌&&◌, ltb, leb, List, [], ◌∷◌, length, map, take, drop, Option, Some, None, refl, ap, ◌∙◌, arith}
+use Rattle.std.proofs.Common.{◌≡◌, ℕ, zero, suc, ◌+◌, ◌-◌, ◌*◌, ◌^◌, Bool, true, false, cond, ◌&&◌, ltb, leb, List, [], ◌∷◌, ◌++◌, length, map, take, drop, Option, Some, None, refl, ap, ◌∙◌, arith}
 use Rattle.std.specs.Prelude.{nat_eq}
 use Rattle.std.specs.List.{prefix_len}
 use Rattle.std.proofs.lemmas.Bool.Decides.{nat_tests}
@@ -39,6 +39,10 @@ all_twice (b ∷ bs) = ap (λ (x : ℕ). x ∷ map raised (map raised bs)) (rais
 pub length_raised : (bs : List ℕ) → length (map raised bs) ≡ length bs
 length_raised [] = refl
 length_raised (b ∷ bs) = ap suc (length_raised bs)
+
+pub raised_append : (xs ys : List ℕ) → map raised (xs ++ ys) ≡ map raised xs ++ map raised ys
+raised_append [] ys = refl
+raised_append (x ∷ xs) ys = ap (λ (z : List ℕ). raised x ∷ z) (raised_append xs ys)
 
 pub take_raised : (n : ℕ) (bs : List ℕ) → take n (map raised bs) ≡ map raised (take n bs)
 take_raised zero bs = refl

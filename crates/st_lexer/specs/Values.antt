@@ -43,12 +43,14 @@ with_sign negative size = if negative then neg_ℤ (pos size) else pos size
 abbrev pub with_names : List Elem → List (Elem × List ℕ)
 with_names types = map (λ t. (t, name_of t)) types
 
--- the types that stand before a `#`, with their names: all but TIME
+-- the types that stand before a `#`: all but TIME
+abbrev pub typed_elems : List Elem
+typed_elems =
+    elem.Sint ∷ elem.Int ∷ elem.Dint ∷ elem.Lint ∷ elem.Usint ∷ elem.Uint ∷ elem.Udint ∷ elem.Ulint ∷
+    elem.Bool ∷ elem.Byte ∷ elem.Word ∷ elem.Dword ∷ elem.Lword ∷ []
+
 abbrev pub named_types : List (Elem × List ℕ)
-named_types =
-    with_names
-    (elem.Sint ∷ elem.Int ∷ elem.Dint ∷ elem.Lint ∷ elem.Usint ∷ elem.Uint ∷ elem.Udint ∷ elem.Ulint ∷
-    elem.Bool ∷ elem.Byte ∷ elem.Word ∷ elem.Dword ∷ elem.Lword ∷ [])
+named_types = with_names typed_elems
 
 -- no sign, or one, and whether it makes a number negative
 abbrev pub signs : List (Bool × List ℕ)
