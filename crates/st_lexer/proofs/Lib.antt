@@ -29,3 +29,4 @@ mod PartValues
 mod NumberValues
 mod ByReading
 mod TypedValues
+mod AddressValues

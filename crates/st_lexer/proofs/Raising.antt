@@ -8,7 +8,7 @@ use Rattle.st_lexer.specs.declared.times.Part.{Part}
 use Rattle.st_lexer.specs.Bytes.{is_alphabetic, is_digit, in_word, begins}
 use Rattle.st_lexer.specs.Front.{and_then, whole_length, fraction_at, letters_length, unit_size, value_on, part_of, part_at, parts_at, link_length, longer, time_at, above_units}
 
-raised_digit : (b : ℕ) → is_digit (raised b) ≡ is_digit b
+pub raised_digit : (b : ℕ) → is_digit (raised b) ≡ is_digit b
 raised_digit b = grind (arith, nat_tests)
 
 raised_alphabetic : (b : ℕ) → is_alphabetic (raised b) ≡ is_alphabetic b
