@@ -30,3 +30,4 @@ mod NumberValues
 mod ByReading
 mod TypedValues
 mod AddressValues
+mod TimeValues

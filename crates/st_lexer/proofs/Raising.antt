@@ -114,7 +114,7 @@ rest_raised bytes point =
     ap (λ (n : ℕ). value_on 0 (take (n + point) (map raised bytes))) w ∙ ap (value_on 0) (take_raised k bytes) ∙ value_raised 0 (take k bytes) in
     rw (u, v, l, w) refl
 
-part_raised : (bytes : List ℕ) → part_at (map raised bytes) ≡ part_at bytes
+pub part_raised : (bytes : List ℕ) → part_at (map raised bytes) ≡ part_at bytes
 unfolding part_at
 part_raised bytes =
     let w = whole_raised bytes in
@@ -126,7 +126,7 @@ part_raised bytes =
     by None = refl
     by (Some point) = rest_raised bytes point
 
-link_raised : (bs : List ℕ) → link_length (map raised bs) ≡ link_length bs
+pub link_raised : (bs : List ℕ) → link_length (map raised bs) ≡ link_length bs
 link_raised bs = rw (begins_raised (nat_eq 95) raised_line bs) refl
 
 pub parts_raised : (n above left : ℕ) (bytes : List ℕ) → parts_at n above left (map raised bytes) ≡ parts_at n above left bytes
