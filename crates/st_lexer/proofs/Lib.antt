@@ -31,3 +31,5 @@ mod ByReading
 mod TypedValues
 mod AddressValues
 mod TimeValues
+mod TokenTexts
+mod ValuesOfTokens

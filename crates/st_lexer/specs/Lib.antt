@@ -8,4 +8,5 @@ pub mod Answers
 pub mod Placed
 pub mod Laws
 pub mod Values
+pub mod ValueLaws
 pub mod steps

@@ -1,10 +1,11 @@
 // The values of numbers, typed numbers, times and addresses.
 
 ghost use Rattle.std.specs.Prelude.{◌≡◌, ◌<◌, ◌^◌, IfSome, IsSome};
+ghost use Rattle.token_grammar.specs.declared.token.TokenKind.TheVariants as kind;
 ghost use Rattle.st_lexer.specs.Texts.{IsNumber, IsTyped, IsAddress};
 ghost use Rattle.st_lexer.specs.Times.{IsTime};
 ghost use Rattle.st_lexer.specs.Values as spec;
-ghost use Rattle.st_lexer.specs.Front.{found_in};
+ghost use Rattle.st_lexer.specs.ValueLaws as laws;
 ghost use Rattle.st_lexer.specs.steps.Readings as readings;
 
 use crate::addresses::numbers_at;
@@ -113,6 +114,22 @@ pub fn with_sign(negative: bool, size: u128) -> Option<i128>
     let number = size as i128;
     Some(if negative { -number } else { number })
 }
+
+/// Each number, typed number, time and address has exactly one value and no other text has one; each token of a cut
+/// has the text of its kind, so that each token of these four kinds has a value.
+pub fn value_laws()
+    ensures texts { laws.TokensHaveTexts }
+    ensures numbers { laws.HaveOneValue IsNumber spec.IsNumberValue }
+    ensures number_tokens { laws.TokensHaveValues kind.Number IsNumber spec.IsNumberValue }
+    ensures numbers_small { laws.NumbersSmall }
+    ensures typed { laws.HaveOneValue IsTyped spec.IsTypedValue }
+    ensures typed_tokens { laws.TokensHaveValues kind.TypedNumber IsTyped spec.IsTypedValue }
+    ensures times { laws.HaveOneValue IsTime spec.IsTimeValue }
+    ensures time_tokens { laws.TokensHaveValues kind.Duration IsTime spec.IsTimeValue }
+    ensures times_in_range { laws.TimesInRange }
+    ensures addresses { laws.HaveOneValue IsAddress laws.IsAddressWith }
+    ensures address_tokens { laws.TokensHaveValues kind.Address IsAddress laws.IsAddressWith }
+{}
 
 /// The value of a text that is a typed number as a whole.
 #[tactic(auto, unfolding(crate::specs::steps::Readings::typed_of))]
@@ -242,6 +259,3 @@ fn width_of(letter: u8) -> Option<Width>
         _ => None,
     }
 }
-
-/// Each token that is a number, a typed number, a time or an address has exactly one value.
-pub fn value_laws() {}
