@@ -15,8 +15,7 @@ use Rattle.st_lexer.specs.Bytes.{is_digit, begins, is_joined}
 use Rattle.st_lexer.specs.Texts.{IsAddress}
 use Rattle.st_lexer.specs.Front.{found_in, numbers_at, numbers_length}
 use Rattle.st_lexer.specs.Values.{areas, widths, IsAddressValue}
-use Rattle.st_lexer.specs.steps.Readings.{Parts, seen, numbered_by, numbered, area_of, width_of, located_by, located, behind_area, behind_percent, address_of}
-use Rattle.st_lexer.proofs.Tests.{both, clash}
+use Rattle.st_lexer.specs.steps.Readings.{AddressParts, address_parts, numbers_by, read_numbers, area_by_letter, width_by_letter, by_width, read_width, behind_area, read_address}
 use Rattle.st_lexer.proofs.Tables.{distinct, found_there, found_row}
 use Rattle.st_lexer.proofs.Spaced.{joined}
 use Rattle.st_lexer.proofs.Runs.{cons_first, cons_rest}
@@ -91,10 +90,10 @@ not_true : (v : Bool) → not v ≡ true → v ≡ true → ⊥
 not_true true a b = cc
 not_true false a b = cc
 
-digit_no_width : (f : ℕ) → is_digit f ≡ true → width_of f ≡ None
-digit_no_width f e = by (width_of f) refl
+digit_no_width : (f : ℕ) → is_digit f ≡ true → width_by_letter f ≡ None
+digit_no_width f e = by (width_by_letter f) refl
   where
-    by : (o : Option Width) → width_of f ≡ o → o ≡ None
+    by : (o : Option Width) → width_by_letter f ≡ o → o ≡ None
     by None at = refl
     by (Some w) at =
         let plain = each_row (λ row. not (begins is_digit row.1)) widths (w, raised f ∷ []) widths_plain (found_there widths (raised f ∷ []) w at) in
@@ -102,16 +101,16 @@ digit_no_width f e = by (width_of f) refl
 
 -- ---- numbers
 
-abbrev Triple : Area → Width → List ℕ → Parts
+abbrev Triple : Area → Width → List ℕ → AddressParts
 Triple a w numbers = (a, w, numbers)
 
-record Numbered (a : Area) (w : Width) (bytes : List ℕ) (p : Parts) : Type 0 where
+record Numbered (a : Area) (w : Width) (bytes : List ℕ) (p : AddressParts) : Type 0 where
   pub area_is : a ≡ p.0
   pub width_is : w ≡ p.1
   pub numbers_are : bytes ≡ p.2
   pub are_numbers : is_joined is_digit 46 bytes ≡ true
 
-numbered_some : (a : Area) (w : Width) (bytes : List ℕ) (p : Parts) → numbered a w bytes ≡ Some p → Numbered a w bytes p
+numbered_some : (a : Area) (w : Width) (bytes : List ℕ) (p : AddressParts) → read_numbers a w bytes ≡ Some p → Numbered a w bytes p
 numbered_some a w bytes p e = by (numbers_at bytes) refl e
   where
     whole : (n : ℕ) (v : Bool) → numbers_at bytes ≡ Some n → nat_eq n (length bytes) ≡ v → cond v (Some (a, w, bytes)) None ≡ Some p → Numbered a w bytes p
@@ -120,18 +119,18 @@ numbered_some a w bytes p e = by (numbers_at bytes) refl e
         let all : take n bytes ≡ bytes = take_all n bytes (omega (arith, same)) in
         let made : Triple a w bytes ≡ p = cc in
         record {
-          area_is = ap (λ (x : Parts). x.0) made;
-          width_is = ap (λ (x : Parts). x.1) made;
-          numbers_are = ap (λ (x : Parts). x.2) made;
+          area_is = ap (λ (x : AddressParts). x.0) made;
+          width_is = ap (λ (x : AddressParts). x.1) made;
+          numbers_are = ap (λ (x : AddressParts). x.2) made;
           are_numbers = ap (is_joined is_digit 46) (sym all) ∙ (numbers_some bytes n at).1;
         }
     whole n false at is h = absurd cc
 
-    by : (o : Option ℕ) → numbers_at bytes ≡ o → numbered_by a w bytes o ≡ Some p → Numbered a w bytes p
+    by : (o : Option ℕ) → numbers_at bytes ≡ o → numbers_by a w bytes o ≡ Some p → Numbered a w bytes p
     by None at h = absurd cc
     by (Some n) at h = whole n (nat_eq n (length bytes)) at refl h
 
-numbered_found : (a : Area) (w : Width) (bytes : List ℕ) → is_joined is_digit 46 bytes ≡ true → numbered a w bytes ≡ Some (a, w, bytes)
+numbered_found : (a : Area) (w : Width) (bytes : List ℕ) → is_joined is_digit 46 bytes ≡ true → read_numbers a w bytes ≡ Some (a, w, bytes)
 numbered_found a w bytes e =
     let j = joined is_digit 46 bytes e in
     let none : bytes ++ [] ≡ bytes = append-nil bytes in
@@ -143,7 +142,7 @@ numbered_found a w bytes e =
 
 -- ---- addresses
 
-made : (letter : ℕ) (size rest : List ℕ) (a : Area) (w : Width) (p : Parts) → Contains areas (a, raised letter ∷ []) → Contains widths (w, map raised size) → Numbered a w rest p
+made : (letter : ℕ) (size rest : List ℕ) (a : Area) (w : Width) (p : AddressParts) → Contains areas (a, raised letter ∷ []) → Contains widths (w, map raised size) → Numbered a w rest p
     → IsAddressValue (37 ∷ letter ∷ (size ++ rest)) p.0 p.1 p.2
 made letter size rest a w p there sized n = record {
   address = record {
@@ -160,15 +159,15 @@ made letter size rest a w p there sized n = record {
   numbers_are = sym n.numbers_are;
 }
 
-located_some : (letter : ℕ) (rest : List ℕ) (a : Area) (p : Parts) → Contains areas (a, raised letter ∷ []) → located a rest ≡ Some p → IsAddressValue (37 ∷ letter ∷ rest) p.0 p.1 p.2
+located_some : (letter : ℕ) (rest : List ℕ) (a : Area) (p : AddressParts) → Contains areas (a, raised letter ∷ []) → read_width a rest ≡ Some p → IsAddressValue (37 ∷ letter ∷ rest) p.0 p.1 p.2
 located_some letter [] a p there e = absurd cc
-located_some letter (f ∷ numbers) a p there e = by (width_of f) refl e
+located_some letter (f ∷ numbers) a p there e = by (width_by_letter f) refl e
   where
-    by : (o : Option Width) → width_of f ≡ o → located_by a o (f ∷ numbers) numbers ≡ Some p → IsAddressValue (37 ∷ letter ∷ f ∷ numbers) p.0 p.1 p.2
+    by : (o : Option Width) → width_by_letter f ≡ o → by_width a o (f ∷ numbers) numbers ≡ Some p → IsAddressValue (37 ∷ letter ∷ f ∷ numbers) p.0 p.1 p.2
     by None at h = made letter [] (f ∷ numbers) a width.Bit p there (0, omega arith, refl) (numbered_some a width.Bit (f ∷ numbers) p h)
     by (Some w) at h = made letter (f ∷ []) numbers a w p there (found_there widths (raised f ∷ []) w at) (numbered_some a w numbers p h)
 
-pub address_some : (text : List ℕ) (p : Parts) → address_of text ≡ Some p → IsAddressValue text p.0 p.1 p.2
+pub address_some : (text : List ℕ) (p : AddressParts) → read_address text ≡ Some p → IsAddressValue text p.0 p.1 p.2
 address_some [] p e = absurd cc
 address_some (first ∷ []) p e = absurd (by (nat_eq first 37) e)
   where
@@ -177,25 +176,25 @@ address_some (first ∷ []) p e = absurd (by (nat_eq first 37) e)
     by false h = cc
 address_some (first ∷ letter ∷ rest) p e = by (nat_eq first 37) refl e
   where
-    in_area : (o : Option Area) → area_of letter ≡ o → behind_area o rest ≡ Some p → IsAddressValue (37 ∷ letter ∷ rest) p.0 p.1 p.2
+    in_area : (o : Option Area) → area_by_letter letter ≡ o → behind_area o rest ≡ Some p → IsAddressValue (37 ∷ letter ∷ rest) p.0 p.1 p.2
     in_area None at h = absurd cc
     in_area (Some a) at h = located_some letter rest a p (found_there areas (raised letter ∷ []) a at) h
 
-    by : (v : Bool) → nat_eq first 37 ≡ v → cond v (behind_area (area_of letter) rest) None ≡ Some p → IsAddressValue (first ∷ letter ∷ rest) p.0 p.1 p.2
-    by true is h = subst (λ (b : ℕ). IsAddressValue (b ∷ letter ∷ rest) p.0 p.1 p.2) (sym (eqb-true first 37 is)) (in_area (area_of letter) refl h)
+    by : (v : Bool) → nat_eq first 37 ≡ v → cond v (behind_area (area_by_letter letter) rest) None ≡ Some p → IsAddressValue (first ∷ letter ∷ rest) p.0 p.1 p.2
+    by true is h = subst (λ (b : ℕ). IsAddressValue (b ∷ letter ∷ rest) p.0 p.1 p.2) (sym (eqb-true first 37 is)) (in_area (area_by_letter letter) refl h)
     by false is h = absurd cc
 
-located_found : (rest : List ℕ) (a : Area) (w : Width) (size ns : List ℕ) → map raised rest ≡ size ++ ns → Contains widths (w, size) → is_joined is_digit 46 ns ≡ true → located a rest ≡ Some (a, w, ns)
+located_found : (rest : List ℕ) (a : Area) (w : Width) (size ns : List ℕ) → map raised rest ≡ size ++ ns → Contains widths (w, size) → is_joined is_digit 46 ns ≡ true → read_width a rest ≡ Some (a, w, ns)
 located_found rest a w size ns e sized n = by (size_cases w size sized)
   where
     all : list_all (λ b. is_digit b || nat_eq b 46) ns ≡ true
     all = (joined is_digit 46 ns n).all
 
-    bare : (xs : List ℕ) → xs ≡ ns → begins is_digit xs ≡ true → located a xs ≡ Some (a, width.Bit, ns)
+    bare : (xs : List ℕ) → xs ≡ ns → begins is_digit xs ≡ true → read_width a xs ≡ Some (a, width.Bit, ns)
     bare [] same first = absurd cc
     bare (f ∷ xs) same first = rw (digit_no_width f first) (numbered_found a width.Bit (f ∷ xs) (ap (is_joined is_digit 46) same ∙ n) ∙ ap (λ (t : List ℕ). Some (a, width.Bit, t)) same)
 
-    lettered : (xs : List ℕ) (c : ℕ) → map raised xs ≡ c ∷ ns → size ≡ c ∷ [] → located a xs ≡ Some (a, w, ns)
+    lettered : (xs : List ℕ) (c : ℕ) → map raised xs ≡ c ∷ ns → size ≡ c ∷ [] → read_width a xs ≡ Some (a, w, ns)
     lettered [] c h one = absurd cc
     lettered (f ∷ xs) c h one =
         let same : xs ≡ ns = numbers_back xs ns (cons_rest (raised f) c (map raised xs) ns h) all in
@@ -203,14 +202,14 @@ located_found rest a w size ns e sized n = by (size_cases w size sized)
         let there : Contains widths (w, raised f ∷ []) = subst (λ (s : List ℕ). Contains widths (w, s)) (one ∙ ap (λ (x : ℕ). x ∷ []) (sym letter)) sized in
         rw (found_row widths (raised f ∷ []) w widths_differ there) (numbered_found a w xs (ap (is_joined is_digit 46) same ∙ n) ∙ ap (λ (t : List ℕ). Some (a, w, t)) same)
 
-    by : ((size ≡ []) × (w ≡ width.Bit)) ⊎ ((c : ℕ) × (size ≡ c ∷ [])) → located a rest ≡ Some (a, w, ns)
+    by : ((size ≡ []) × (w ≡ width.Bit)) ⊎ ((c : ℕ) × (size ≡ c ∷ [])) → read_width a rest ≡ Some (a, w, ns)
     by (inl (none, bit)) =
         let same : rest ≡ ns = numbers_back rest ns (e ∙ ap (λ (t : List ℕ). t ++ ns) none) all in
         bare rest same (ap (begins is_digit) same ∙ (joined is_digit 46 ns n).first) ∙ ap (λ (x : Width). Some (a, x, ns)) (sym bit)
     by (inr (c, one)) = lettered rest c (e ∙ ap (λ (t : List ℕ). t ++ ns) one) one
 
 found_by : (text : List ℕ) (a : Area) (w : Width) (letter : ℕ) (size ns : List ℕ) → map raised text ≡ 37 ∷ letter ∷ (size ++ ns) → Contains areas (a, letter ∷ []) → Contains widths (w, size)
-    → is_joined is_digit 46 ns ≡ true → address_of text ≡ Some (a, w, ns)
+    → is_joined is_digit 46 ns ≡ true → read_address text ≡ Some (a, w, ns)
 found_by [] a w letter size ns e there sized n = absurd cc
 found_by (p ∷ []) a w letter size ns e there sized n = let h = cons_rest (raised p) 37 [] (letter ∷ (size ++ ns)) e in absurd cc
 found_by (p ∷ b ∷ rest) a w letter size ns e there sized n =
@@ -219,34 +218,34 @@ found_by (p ∷ b ∷ rest) a w letter size ns e there sized n =
     let second : raised b ≡ letter = cons_first (raised b) letter (map raised rest) (size ++ ns) behind in
     let more : map raised rest ≡ size ++ ns = cons_rest (raised b) letter (map raised rest) (size ++ ns) behind in
     let is : nat_eq p 37 ≡ true = eq-eqb p 37 first in
-    let in_area : area_of b ≡ Some a = ap (λ (c : ℕ). found_in areas (c ∷ [])) second ∙ found_row areas (letter ∷ []) a areas_differ there in
+    let in_area : area_by_letter b ≡ Some a = ap (λ (c : ℕ). found_in areas (c ∷ [])) second ∙ found_row areas (letter ∷ []) a areas_differ there in
     rw (is, in_area) (located_found rest a w size ns more sized n)
 
-pub address_found : (text : List ℕ) (a : Area) (w : Width) (ns : List ℕ) → IsAddressValue text a w ns → address_of text ≡ Some (a, w, ns)
+pub address_found : (text : List ℕ) (a : Area) (w : Width) (ns : List ℕ) → IsAddressValue text a w ns → read_address text ≡ Some (a, w, ns)
 address_found text a w ns v =
     found_by text a w v.address.area v.address.size v.address.numbers v.address.text_is v.is_area v.is_width v.address.are_numbers ∙ ap (λ (t : List ℕ). Some (a, w, t)) (sym v.numbers_are)
 
 -- ---- each address has its parts
 
-abbrev HasParts : List ℕ → Parts → Type 0
+abbrev HasParts : List ℕ → AddressParts → Type 0
 HasParts text p = IsAddressValue text p.0 p.1 p.2
 
-pub some_address : (text : List ℕ) → IsAddress text → (p : Parts) × HasParts text p
+pub some_address : (text : List ℕ) → IsAddress text → (p : AddressParts) × HasParts text p
 some_address text is =
     let a = letter_area is.area is.is_area in
     let w = size_width is.size is.is_size in
     ((a.0, w.0, is.numbers), record { address = is; is_area = a.1; is_width = w.1; numbers_are = refl })
 
-pub one_address : (text : List ℕ) (p q : Parts) → HasParts text p → HasParts text q → p ≡ q
+pub one_address : (text : List ℕ) (p q : AddressParts) → HasParts text p → HasParts text q → p ≡ q
 one_address text p q x y = let e : Some p ≡ Some q = sym (address_found text p.0 p.1 p.2 x) ∙ address_found text q.0 q.1 q.2 y in cc
 
 -- ---- what is answered
 
-pub if_address : (text : List ℕ) (answer : Option AddressValue) → seen answer ≡ address_of text → IfSome answer (λ v. IsAddressValue text v.area v.width v.numbers.now)
+pub if_address : (text : List ℕ) (answer : Option AddressValue) → address_parts answer ≡ read_address text → IfSome answer (λ v. IsAddressValue text v.area v.width v.numbers.now)
 if_address text None e = search
 if_address text (Some v) e = address_some text (v.area, v.width, v.numbers.now) (sym e)
 
-pub is_address : (text : List ℕ) (answer : Option AddressValue) → seen answer ≡ address_of text → IsAddress text → IsSome answer
+pub is_address : (text : List ℕ) (answer : Option AddressValue) → address_parts answer ≡ read_address text → IsAddress text → IsSome answer
 is_address text (Some v) e is = search
 is_address text None e is =
     let p = some_address text is in

@@ -1,6 +1,6 @@
 -- The values of numbers: what is read of a whole text is one, and each one is read.
-use Rattle.std.proofs.Common.{◌≡◌, ℕ, zero, suc, ◌+◌, ◌*◌, ◌^◌, ◌<◌, ◌≤◌, Bool, true, false, cond, not, ◌&&◌, ◌||◌, List, [], ◌∷◌, ◌++◌, length, take, drop, codes, Option, Some, None, refl, sym, ap, subst, ◌∙◌, arith}
-use Rattle.std.specs.Prelude.{nat_eq, bytes_eq, filter}
+use Rattle.std.proofs.Common.{◌≡◌, ℕ, zero, suc, ◌+◌, ◌*◌, ◌^◌, ◌<◌, ◌≤◌, Bool, true, false, cond, not, ◌&&◌, ◌||◌, List, [], ◌∷◌, ◌++◌, length, take, drop, codes, Option, Some, None, refl, sym, ap, ◌∙◌, arith}
+use Rattle.std.specs.Prelude.{nat_eq, bytes_eq}
 use Rattle.std.specs.List.{list_all, fold, Contains}
 use Rattle.std.proofs.Math.Nat.{pow-zero, pow-succ'}
 use Rattle.st_lexer.specs.Bytes.{worth, is_digit_in, one_more, value_in}
@@ -9,11 +9,11 @@ use Rattle.st_lexer.specs.Texts.{IsNumeral, IsNumber, bases}
 use Rattle.st_lexer.specs.Front.{goes_on}
 use Rattle.st_lexer.specs.Values as values
 use Rattle.st_lexer.specs.Values.{plain_digits, positional, IsNumberValue}
-use Rattle.st_lexer.specs.steps.Readings.{numeral_of, number_of}
+use Rattle.st_lexer.specs.steps.Readings.{read_numeral, read_number}
 use Rattle.st_lexer.proofs.Tests.{same, false_by}
 use Rattle.st_lexer.proofs.Spaced.{joined}
 use Rattle.st_lexer.proofs.Runs.{split_at}
-use Rattle.st_lexer.proofs.Numerals.{is_numeral, numeral_goes, Mark, mark_of}
+use Rattle.st_lexer.proofs.Numerals.{is_numeral, numeral_goes, mark_of}
 
 -- ---- digits by their places
 
@@ -45,14 +45,14 @@ pub record NumeralValue (base : ℕ) (bytes : List ℕ) (value : ℕ) : Type 0 w
   pub is : IsNumeral base bytes
   pub value_is : value ≡ positional base (plain_digits bytes)
 
-numeral_some : (base : ℕ) (bytes : List ℕ) (value : ℕ) → numeral_of base bytes ≡ Some value → NumeralValue base bytes value
+numeral_some : (base : ℕ) (bytes : List ℕ) (value : ℕ) → read_numeral base bytes ≡ Some value → NumeralValue base bytes value
 numeral_some base bytes value e = by (goes_on base true 0 bytes) refl e
   where
     by : (v : Bool) → goes_on base true 0 bytes ≡ v → cond v (Some (value_in base bytes)) None ≡ Some value → NumeralValue base bytes value
     by true goes h = let is : value_in base bytes ≡ value = cc in record { is = is_numeral base bytes goes; value_is = sym is ∙ by_places base bytes }
     by false goes h = absurd cc
 
-numeral_found : (base : ℕ) (bytes : List ℕ) (value : ℕ) → 1 ≤ base → base ≤ 16 → IsNumeral base bytes → value ≡ positional base (plain_digits bytes) → numeral_of base bytes ≡ Some value
+numeral_found : (base : ℕ) (bytes : List ℕ) (value : ℕ) → 1 ≤ base → base ≤ 16 → IsNumeral base bytes → value ≡ positional base (plain_digits bytes) → read_numeral base bytes ≡ Some value
 numeral_found base bytes value pos le is e = rw (numeral_goes base bytes pos le is) (ap (λ (n : ℕ). Some n) (by_places base bytes ∙ sym e))
 
 -- ---- numbers
@@ -61,7 +61,7 @@ begun : (n : ℕ) (text mark : List ℕ) → bytes_eq (take n text) mark ≡ tru
 begun n text mark e = split_at n text ∙ ap (λ (t : List ℕ). t ++ drop n text) (same (take n text) mark e)
 
 abbrev by_mark : (u v w : Bool) → List ℕ → Option ℕ
-by_mark u v w text = cond u (numeral_of 2 (drop 2 text)) (cond v (numeral_of 8 (drop 2 text)) (cond w (numeral_of 16 (drop 3 text)) (numeral_of 10 text)))
+by_mark u v w text = cond u (read_numeral 2 (drop 2 text)) (cond v (read_numeral 8 (drop 2 text)) (cond w (read_numeral 16 (drop 3 text)) (read_numeral 10 text)))
 
 number_some_by : (text : List ℕ) (value : ℕ) (u v w : Bool) → bytes_eq (take 2 text) (codes "2#") ≡ u → bytes_eq (take 2 text) (codes "8#") ≡ v
     → bytes_eq (take 3 text) (codes "16#") ≡ w → by_mark u v w text ≡ Some value → IsNumberValue text value
@@ -76,8 +76,8 @@ number_some_by text value false false true e1 e2 e3 h =
     values.based 16 (codes "16#") (drop 3 text) (2, omega arith, refl) (begun 3 text (codes "16#") e3) n.is n.value_is
 number_some_by text value false false false e1 e2 e3 h = let n = numeral_some 10 text value h in values.decimal n.is n.value_is
 
-pub number_some : (text : List ℕ) (value : ℕ) → number_of text ≡ Some value → IsNumberValue text value
-unfolding number_of
+pub number_some : (text : List ℕ) (value : ℕ) → read_number text ≡ Some value → IsNumberValue text value
+unfolding read_number
 number_some text value e =
     number_some_by text value (bytes_eq (take 2 text) (codes "2#")) (bytes_eq (take 2 text) (codes "8#")) (bytes_eq (take 3 text) (codes "16#")) refl refl refl e
 
@@ -100,8 +100,8 @@ three_hash a b rest e = by (decimal_byte a) (decimal_byte b) e
     by true false h = cc
     by false w h = cc
 
-decimal_found : (text : List ℕ) (value : ℕ) → IsNumeral 10 text → value ≡ positional 10 (plain_digits text) → number_of text ≡ Some value
-unfolding number_of
+decimal_found : (text : List ℕ) (value : ℕ) → IsNumeral 10 text → value ≡ positional 10 (plain_digits text) → read_number text ≡ Some value
+unfolding read_number
 decimal_found text value is e =
     let all = (joined (is_digit_in 10) 95 text is.digits).all in
     let no_two : bytes_eq (take 2 text) (codes "2#") ≡ false = false_by _ (λ h. two_hash 50 (drop 2 text) (ap (list_all decimal_byte) (sym (begun 2 text (codes "2#") h)) ∙ all)) in
@@ -109,18 +109,18 @@ decimal_found text value is e =
     let no_sixteen : bytes_eq (take 3 text) (codes "16#") ≡ false = false_by _ (λ h. three_hash 49 54 (drop 3 text) (ap (list_all decimal_byte) (sym (begun 3 text (codes "16#") h)) ∙ all)) in
     rw (no_two, no_eight, no_sixteen) (numeral_found 10 text value (omega arith) (omega arith) is e)
 
-marked : (base : ℕ) (mark digits : List ℕ) → Contains bases (base, mark) → number_of (mark ++ digits) ≡ numeral_of base digits
-unfolding number_of
+marked : (base : ℕ) (mark digits : List ℕ) → Contains bases (base, mark) → read_number (mark ++ digits) ≡ read_numeral base digits
+unfolding read_number
 marked base mark digits (zero, lt, at) = rw (← ap (λ (r : ℕ × List ℕ). r.0) at, ← ap (λ (r : ℕ × List ℕ). r.1) at) refl
 marked base mark digits (suc zero, lt, at) = rw (← ap (λ (r : ℕ × List ℕ). r.0) at, ← ap (λ (r : ℕ × List ℕ). r.1) at) refl
 marked base mark digits (suc (suc zero), lt, at) = rw (← ap (λ (r : ℕ × List ℕ). r.0) at, ← ap (λ (r : ℕ × List ℕ). r.1) at) refl
 marked base mark digits (suc (suc (suc i)), lt, at) = absurd (omega (arith, lt))
 
-pub number_found : (text : List ℕ) (value : ℕ) → IsNumberValue text value → number_of text ≡ Some value
+pub number_found : (text : List ℕ) (value : ℕ) → IsNumberValue text value → read_number text ≡ Some value
 number_found text value (values.decimal is e) = decimal_found text value is e
 number_found text value (values.based base mark digits there text_is is e) =
     let k = mark_of base mark there in
-    ap number_of text_is ∙ marked base mark digits there ∙ numeral_found base digits value k.least k.most is e
+    ap read_number text_is ∙ marked base mark digits there ∙ numeral_found base digits value k.least k.most is e
 
 -- ---- each number has a value, and what has one is a number
 

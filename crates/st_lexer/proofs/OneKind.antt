@@ -15,7 +15,7 @@ use Rattle.st_lexer.specs.Texts.{IsText, keyword_kinds, keywords, marks, is_word
 use Rattle.st_lexer.specs.Faulty as faulty
 use Rattle.st_lexer.specs.Faulty.{IsOpen, IsBadName, BeginsLiteral, IsBadNumber, IsBadByte, IsFaulty}
 use Rattle.st_lexer.specs.Front.{lead_of}
-use Rattle.st_lexer.proofs.Tests.{equal, both, clash, or_right}
+use Rattle.st_lexer.proofs.Tests.{equal, clash, or_right}
 use Rattle.st_lexer.proofs.Tables.{distinct, one_row}
 use Rattle.st_lexer.proofs.Runs.{front_is, all_of_append}
 use Rattle.st_lexer.proofs.Leads.{each_row, all_letters, type_letters, time_letters, TypedSplit, TimeSplit, keyword_plain, digit_lead}

@@ -1,6 +1,5 @@
 -- What stands at the front, as the definition says, and what serves each lead.
-use Rattle.std.proofs.Common.{◌≡◌, ℕ, zero, suc, ◌<◌, ◌≤◌, Bool, true, false, cond, leb, List, [], ◌∷◌, ◌++◌, length, take, drop, Option, Some, None, refl, sym, ap, subst, ◌∙◌, arith}
-use Rattle.std.specs.Prelude.{bytes_eq}
+use Rattle.std.proofs.Common.{◌≡◌, ℕ, ◌<◌, ◌≤◌, true, false, leb, List, [], ◌∷◌, ◌++◌, length, take, drop, Option, Some, None, refl, sym, ap, subst, ◌∙◌, arith}
 use Rattle.std.specs.List.{list_all, Contains}
 use Rattle.std.proofs.lemmas.Bool.{leb-true}
 use Rattle.std.proofs.lemmas.List.{length-append, length-take}
@@ -15,7 +14,7 @@ use Rattle.st_lexer.specs.Faulty.{HasNoFault, IsFaulty}
 use Rattle.st_lexer.specs.Cut.{IsLongest, IsToken}
 use Rattle.st_lexer.specs.Front.{found_in, long_mark, short_mark, long_or, mark_at, lead_of}
 use Rattle.st_lexer.proofs.Tables.{found_there, found_missing}
-use Rattle.st_lexer.proofs.Tests.{same, equal, clash}
+use Rattle.st_lexer.proofs.Tests.{clash}
 use Rattle.st_lexer.proofs.Runs.{split_at, cons_first, cons_rest}
 use Rattle.st_lexer.proofs.Leads.{each_row}
 use Rattle.st_lexer.proofs.LeadTexts.{may_open, may_name, may_number, open_lead, name_lead, number_lead, text_some}

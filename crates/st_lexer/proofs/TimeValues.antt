@@ -2,47 +2,47 @@
 use Rattle.std.proofs.Common.{◌≡◌, ℕ, zero, suc, ◌+◌, ◌-◌, ◌^◌, ◌<◌, ◌≤◌, ℤ, pos, neg_ℤ, Bool, true, false, cond, ◌&&◌, ◌||◌, ◌⊎◌, inl, inr, leb, ltb, List, [], ◌∷◌, ◌++◌, length, map, take, drop, codes, Option, Some, None, refl, sym, ap, subst, ◌∙◌, arith}
 use Rattle.std.specs.Prelude.{nat_eq, bytes_eq}
 use Rattle.std.specs.List.{list_all, list_any, Contains}
-use Rattle.std.proofs.lemmas.Bool.{eqb-true, eq-eqb, ltb-true, lt-ltb, leb-true, le-leb}
+use Rattle.std.proofs.lemmas.Bool.{eqb-true, ltb-true, lt-ltb, leb-true, le-leb}
 use Rattle.std.proofs.lemmas.List.{append-nil, length-append, length-drop, take_all}
 use Rattle.iec_tables.specs.Letters.{raised}
 use Rattle.st_lexer.specs.declared.times.Part.{Part as Seen}
-use Rattle.st_lexer.specs.Bytes.{is_alphabetic, is_digit, in_word, begins}
+use Rattle.st_lexer.specs.Bytes.{is_alphabetic, is_digit, begins}
 use Rattle.st_lexer.specs.Texts.{is_word_of}
 use Rattle.st_lexer.specs.Times.{Part, dotted, part_text, milliseconds, IsPart, ArePartsOf, sum_of, greatest, sign_of, IsTime}
 use Rattle.st_lexer.specs.Front.{above_units, and_then, hash_follows, link_length, part_at, word_length}
 use Rattle.st_lexer.specs.Values.{with_sign, IsTimeValue}
-use Rattle.st_lexer.specs.steps.Readings.{added, parts_of, whole_parts, negative, positive, behind_word, time_of}
+use Rattle.st_lexer.specs.steps.Readings.{added, read_parts, whole_parts, as_negative, as_positive, behind_word, read_time}
 use Rattle.st_lexer.proofs.Tests.{same, false_by}
 use Rattle.st_lexer.proofs.Runs.{drop_front, split_at, append_assoc_, cons_first, cons_rest}
 use Rattle.st_lexer.proofs.Leads.{is_capital, capitals, all_letters, raised_same, raised_split, one_of_two}
 use Rattle.st_lexer.proofs.Numerals.{hashed, hash_first}
 use Rattle.st_lexer.proofs.Raising.{all_twice, raised_append, length_raised, drop_raised, raised_digit, part_raised, link_raised}
-use Rattle.st_lexer.proofs.Durations.{IsRaised, unit_is, part_length, part_found, seen_of, PartHere, part_some}
-use Rattle.st_lexer.proofs.DurationParts.{link_is, parts_first, Linked, linked, left_over, small_part}
+use Rattle.st_lexer.proofs.Durations.{IsRaised, unit_is, part_length, part_found, PartHere, part_some}
+use Rattle.st_lexer.proofs.DurationParts.{link_is, parts_first, linked, left_over, small_part}
 
 -- ---- letters in either case
 
-raised_parts : (n above left : ℕ) (bytes : List ℕ) → parts_of n above left (map raised bytes) ≡ parts_of n above left bytes
-unfolding parts_of
+raised_parts : (n above left : ℕ) (bytes : List ℕ) → read_parts n above left (map raised bytes) ≡ read_parts n above left bytes
+unfolding read_parts
 raised_parts zero above left bytes = refl
 raised_parts (suc n) above left bytes = rw (part_raised bytes) (by (part_at bytes) (λ p xs. raised_parts n p.size (left - p.value) xs))
   where
-    by : (o : Option Seen) → ((p : Seen) (xs : List ℕ) → parts_of n p.size (left - p.value) (map raised xs) ≡ parts_of n p.size (left - p.value) xs)
+    by : (o : Option Seen) → ((p : Seen) (xs : List ℕ) → read_parts n p.size (left - p.value) (map raised xs) ≡ read_parts n p.size (left - p.value) xs)
         → and_then o (λ p. cond (ltb p.size above && leb p.value left)
         (cond (nat_eq (length (drop p.length (map raised bytes))) 0) (Some p.value)
-        (cond p.last None (added p.value (parts_of n p.size (left - p.value) (drop (link_length (drop p.length (map raised bytes))) (drop p.length (map raised bytes)))))))
+        (cond p.last None (added p.value (read_parts n p.size (left - p.value) (drop (link_length (drop p.length (map raised bytes))) (drop p.length (map raised bytes)))))))
         None)
         ≡ and_then o (λ p. cond (ltb p.size above && leb p.value left)
         (cond (nat_eq (length (drop p.length bytes)) 0) (Some p.value)
-        (cond p.last None (added p.value (parts_of n p.size (left - p.value) (drop (link_length (drop p.length bytes)) (drop p.length bytes))))))
+        (cond p.last None (added p.value (read_parts n p.size (left - p.value) (drop (link_length (drop p.length bytes)) (drop p.length bytes))))))
         None)
     by None h = refl
     by (Some p) h =
         let behind = drop p.length bytes in
         let d : drop p.length (map raised bytes) ≡ map raised behind = drop_raised p.length bytes in
         let k = link_length behind in
-        let t : parts_of n p.size (left - p.value) (drop k (map raised behind)) ≡ parts_of n p.size (left - p.value) (drop k behind) =
-        ap (parts_of n p.size (left - p.value)) (drop_raised k behind) ∙ h p (drop k behind) in
+        let t : read_parts n p.size (left - p.value) (drop k (map raised behind)) ≡ read_parts n p.size (left - p.value) (drop k behind) =
+        ap (read_parts n p.size (left - p.value)) (drop_raised k behind) ∙ h p (drop k behind) in
         rw (d, length_raised behind, link_raised behind, t) refl
 
 -- ---- what is read are parts
@@ -81,14 +81,14 @@ further_parts above left value bytes p q j h size most last e s =
       most = omega (arith, s.most, most, e);
     }
 
-parts_sum : (n above left : ℕ) (bytes : List ℕ) (value : ℕ) → IsRaised bytes → parts_of n above left bytes ≡ Some value → Sum above left bytes value
-unfolding parts_of
+parts_sum : (n above left : ℕ) (bytes : List ℕ) (value : ℕ) → IsRaised bytes → read_parts n above left bytes ≡ Some value → Sum above left bytes value
+unfolding read_parts
 parts_sum zero above left bytes value r e = absurd cc
 parts_sum (suc n) above left bytes value r e = by (part_at bytes) refl e (λ p xs j rs h. parts_sum n p.size (left - p.value) xs j rs h)
   where
     tested : (p : Seen) (u v w l : Bool) → part_at bytes ≡ Some p → ltb p.size above ≡ u → leb p.value left ≡ v → nat_eq (length (drop p.length bytes)) 0 ≡ w → p.last ≡ l
-        → cond (u && v) (cond w (Some p.value) (cond l None (added p.value (parts_of n p.size (left - p.value) (drop (link_length (drop p.length bytes)) (drop p.length bytes)))))) None ≡ Some value
-        → ((xs : List ℕ) (j : ℕ) → IsRaised xs → parts_of n p.size (left - p.value) xs ≡ Some j → Sum p.size (left - p.value) xs j)
+        → cond (u && v) (cond w (Some p.value) (cond l None (added p.value (read_parts n p.size (left - p.value) (drop (link_length (drop p.length bytes)) (drop p.length bytes)))))) None ≡ Some value
+        → ((xs : List ℕ) (j : ℕ) → IsRaised xs → read_parts n p.size (left - p.value) xs ≡ Some j → Sum p.size (left - p.value) xs j)
         → Sum above left bytes value
     tested p true true true l at e1 e2 e3 e4 h go =
         let q = part_some bytes p r at in
@@ -100,7 +100,7 @@ parts_sum (suc n) above left bytes value r e = by (part_at bytes) refl e (λ p x
         let k = link_length behind in
         let first : IsRaised behind = sym (drop_raised p.length bytes) ∙ ap (drop p.length) r in
         let further : IsRaised (drop k behind) = sym (drop_raised k behind) ∙ ap (drop k) first in
-        let j = added_some p.value value (parts_of n p.size (left - p.value) (drop k behind)) h in
+        let j = added_some p.value value (read_parts n p.size (left - p.value) (drop k behind)) h in
         further_parts above left value bytes p q.0 j.0 q.1 (ltb-true p.size above e1) (leb-true p.value left e2) e4 j.2 (go (drop k behind) j.0 further j.1)
     tested p true false w l at e1 e2 e3 e4 h go = absurd cc
     tested p false v w l at e1 e2 e3 e4 h go = absurd cc
@@ -108,9 +108,9 @@ parts_sum (suc n) above left bytes value r e = by (part_at bytes) refl e (λ p x
     by : (o : Option Seen) → part_at bytes ≡ o
         → and_then o (λ p. cond (ltb p.size above && leb p.value left)
         (cond (nat_eq (length (drop p.length bytes)) 0) (Some p.value)
-        (cond p.last None (added p.value (parts_of n p.size (left - p.value) (drop (link_length (drop p.length bytes)) (drop p.length bytes))))))
+        (cond p.last None (added p.value (read_parts n p.size (left - p.value) (drop (link_length (drop p.length bytes)) (drop p.length bytes))))))
         None) ≡ Some value
-        → ((p : Seen) (xs : List ℕ) (j : ℕ) → IsRaised xs → parts_of n p.size (left - p.value) xs ≡ Some j → Sum p.size (left - p.value) xs j)
+        → ((p : Seen) (xs : List ℕ) (j : ℕ) → IsRaised xs → read_parts n p.size (left - p.value) xs ≡ Some j → Sum p.size (left - p.value) xs j)
         → Sum above left bytes value
     by None at h go = absurd cc
     by (Some p) at h go = tested p (ltb p.size above) (leb p.value left) (nat_eq (length (drop p.length bytes)) 0) p.last at refl refl refl refl h (go p)
@@ -118,9 +118,9 @@ parts_sum (suc n) above left bytes value r e = by (part_at bytes) refl e (λ p x
 -- ---- parts are read
 
 first_found : (n above left : ℕ) (bytes : List ℕ) (q : Part) (rest : List ℕ) → IsPart q → bytes ≡ part_text q ++ rest → begins is_alphabetic rest ≡ false → q.size < above → milliseconds q ≤ left → left ≤ 2 ^ 63
-    → parts_of (suc n) above left bytes
-    ≡ cond (nat_eq (length rest) 0) (Some (milliseconds q)) (cond (ltb 0 (length (dotted q.fraction))) None (added (milliseconds q) (parts_of n q.size (left - milliseconds q) (drop (link_length rest) rest))))
-unfolding parts_of
+    → read_parts (suc n) above left bytes
+    ≡ cond (nat_eq (length rest) 0) (Some (milliseconds q)) (cond (ltb 0 (length (dotted q.fraction))) None (added (milliseconds q) (read_parts n q.size (left - milliseconds q) (drop (link_length rest) rest))))
+unfolding read_parts
 first_found n above left bytes q rest is e stops below sum most =
     let at = part_found q bytes rest is e stops (small_part q is (omega (arith, sum, most))) in
     let size : ltb q.size above ≡ true = lt-ltb q.size above below in
@@ -130,7 +130,7 @@ first_found n above left bytes q rest is e stops below sum most =
     rw (at, size, value, count, behind) refl
 
 parts_found : (n above left : ℕ) (bytes : List ℕ) (q : Part) (ps : List Part) → length bytes < n → ArePartsOf (q ∷ ps) bytes → q.size < above → sum_of (q ∷ ps) ≤ left → left ≤ 2 ^ 63
-    → parts_of n above left bytes ≡ Some (sum_of (q ∷ ps))
+    → read_parts n above left bytes ≡ Some (sum_of (q ∷ ps))
 parts_found zero above left bytes q ps lt are below sum most = absurd (omega (arith, lt))
 parts_found (suc n) above left bytes q [] lt (is, text_is) below sum most =
     first_found n above left bytes q [] is (text_is ∙ sym (append-nil (part_text q))) refl below (omega (arith, sum)) most
@@ -145,8 +145,8 @@ parts_found (suc n) above left bytes q (q2 ∷ ps) lt (is, plain, falls, (link, 
     let rest_is : drop (link_length (link ++ further)) (link ++ further) ≡ further = ap (λ (k : ℕ). drop k (link ++ further)) l.count ∙ drop_front link further in
     let shorter : length further < n = omega (arith, lt, ap length text_is, length-append (part_text q) (link ++ further), length-append link further, part_length q, is.some) in
     let tail = parts_found n q.size (left - milliseconds q) further q2 ps shorter more falls (omega (arith, sum)) (omega (arith, most)) in
-    let tail_is : parts_of n q.size (left - milliseconds q) (drop (link_length (link ++ further)) (link ++ further)) ≡ Some (sum_of (q2 ∷ ps)) =
-    ap (parts_of n q.size (left - milliseconds q)) rest_is ∙ tail in
+    let tail_is : read_parts n q.size (left - milliseconds q) (drop (link_length (link ++ further)) (link ++ further)) ≡ Some (sum_of (q2 ∷ ps)) =
+    ap (read_parts n q.size (left - milliseconds q)) rest_is ∙ tail in
     here ∙ rw (goes, none, tail_is) refl
   where
     begun : (xs : List ℕ) → begins is_digit xs ≡ true → 0 < length xs
@@ -185,16 +185,16 @@ made text word parts minus size is text_is stays s = record {
   value_is = ap (with_sign minus) (sym s.sum);
 }
 
-negative_some : (o : Option ℕ) (z : ℤ) → negative o ≡ Some z → (n : ℕ) × (o ≡ Some n) × (neg_ℤ (pos n) ≡ z)
+negative_some : (o : Option ℕ) (z : ℤ) → as_negative o ≡ Some z → (n : ℕ) × (o ≡ Some n) × (neg_ℤ (pos n) ≡ z)
 negative_some None z e = absurd cc
 negative_some (Some n) z e = (n, refl, cc)
 
-positive_some : (o : Option ℕ) (z : ℤ) → positive o ≡ Some z → (n : ℕ) × (o ≡ Some n) × (pos n ≡ z)
+positive_some : (o : Option ℕ) (z : ℤ) → as_positive o ≡ Some z → (n : ℕ) × (o ≡ Some n) × (pos n ≡ z)
 positive_some None z e = absurd cc
 positive_some (Some n) z e = (n, refl, cc)
 
-pub time_some : (text : List ℕ) (z : ℤ) → time_of text ≡ Some z → IsTimeValue text z
-unfolding time_of
+pub time_some : (text : List ℕ) (z : ℤ) → read_time text ≡ Some z → IsTimeValue text z
+unfolding read_time
 time_some text z e = by (is_word_of time_words word) refl e
   where
     word : List ℕ
@@ -207,7 +207,7 @@ time_some text z e = by (is_word_of time_words word) refl e
     whole t h = split_at (word_length text) text ∙ ap (λ (x : List ℕ). word ++ x) h
 
     marked : (u v : Bool) → is_word_of time_words word ≡ true → bytes_eq (take 2 rest) (codes "#-") ≡ u → hash_follows rest ≡ v
-        → cond u (negative (whole_parts (2 ^ 63) (drop 2 rest))) (cond v (positive (whole_parts (2 ^ 63 - 1) (drop 1 rest))) None) ≡ Some z → IsTimeValue text z
+        → cond u (as_negative (whole_parts (2 ^ 63) (drop 2 rest))) (cond v (as_positive (whole_parts (2 ^ 63 - 1) (drop 1 rest))) None) ≡ Some z → IsTimeValue text z
     marked true v is e1 e2 h =
         let n = negative_some (whole_parts (2 ^ 63) (drop 2 rest)) z h in
         let at : rest ≡ 35 ∷ 45 ∷ drop 2 rest = split_at 2 rest ∙ ap (λ (t : List ℕ). t ++ drop 2 rest) (same (take 2 rest) (codes "#-") e1) in
@@ -227,7 +227,7 @@ whole_found : (left : ℕ) (bytes body : List ℕ) (ps : List Part) → map rais
 whole_found left bytes body [] e are sum most = absurd are
 whole_found left bytes body (q ∷ ps) e are sum most =
     let shorter : length body < suc (length bytes) = omega (arith, ap length (sym e), length_raised bytes) in
-    sym (raised_parts (suc (length bytes)) above_units left bytes) ∙ ap (parts_of (suc (length bytes)) above_units left) e
+    sym (raised_parts (suc (length bytes)) above_units left bytes) ∙ ap (read_parts (suc (length bytes)) above_units left) e
     ∙ parts_found (suc (length bytes)) above_units left body q ps shorter are (first_unit q ps body are) sum most
   where
     first_unit : (q : Part) (ps : List Part) (body : List ℕ) → ArePartsOf (q ∷ ps) body → q.size < above_units
@@ -259,21 +259,21 @@ behind_found rest body false ps e are sum =
     rw (no_minus rest body e (digits_first ps body are), found) refl
 
 word_found : (text u rest_ : List ℕ) (o : Option ℤ) → map raised text ≡ u ++ 35 ∷ rest_ → list_all is_capital u ≡ true → list_any (bytes_eq u) time_words ≡ true
-    → ((rest : List ℕ) → map raised rest ≡ rest_ → behind_word (35 ∷ rest) ≡ o) → time_of text ≡ o
-unfolding time_of
+    → ((rest : List ℕ) → map raised rest ≡ rest_ → behind_word (35 ∷ rest) ≡ o) → read_time text ≡ o
+unfolding read_time
 word_found text u rest_ o e letters is found =
     let s = raised_split text u rest_ e in
     let h = hashed text s.word s.rest s.text_is (all_letters s.word (capitals s.word u s.word_is letters)) in
     let word : is_word_of time_words (take (word_length text) text) ≡ true = ap (is_word_of time_words) h.run ∙ ap (λ (w : List ℕ). list_any (bytes_eq w) time_words) s.word_is ∙ is in
     rw (word, h.behind) (found s.rest s.rest_is)
 
-pub time_found : (text : List ℕ) (z : ℤ) → IsTimeValue text z → time_of text ≡ Some z
+pub time_found : (text : List ℕ) (z : ℤ) → IsTimeValue text z → read_time text ≡ Some z
 time_found text z v = by (one_of_two (codes "T#") (codes "TIME#") v.time.head v.time.is_head)
   where
     behind : (rest : List ℕ) → map raised rest ≡ sign_of v.time.negative ++ v.time.body → behind_word (35 ∷ rest) ≡ Some z
     behind rest e = behind_found rest v.time.body v.time.negative v.time.parts e v.time.are_parts v.time.in_range ∙ ap (λ (x : ℤ). Some x) (sym v.value_is)
 
-    by : (codes "T#" ≡ v.time.head) ⊎ (codes "TIME#" ≡ v.time.head) → time_of text ≡ Some z
+    by : (codes "T#" ≡ v.time.head) ⊎ (codes "TIME#" ≡ v.time.head) → read_time text ≡ Some z
     by (inl e) =
         word_found text (codes "T") (sign_of v.time.negative ++ v.time.body) (Some z) (v.time.text_is ∙ ap (λ (h : List ℕ). h ++ (sign_of v.time.negative ++ v.time.body)) (sym e)) refl refl behind
     by (inr e) =

@@ -1,5 +1,5 @@
 -- The tokens of a cut and their texts: each has the text of its kind, and numbers, typed numbers, times and addresses are what they are called.
-use Rattle.std.proofs.Common.{◌≡◌, ℕ, zero, suc, ◌+◌, ◌-◌, Bool, true, false, not, List, [], ◌∷◌, ◌++◌, length, map, take, drop, refl, sym, ap, subst, ◌∙◌, arith}
+use Rattle.std.proofs.Common.{◌≡◌, ℕ, zero, suc, ◌-◌, Bool, true, false, not, List, [], ◌∷◌, ◌++◌, length, map, take, drop, refl, sym, ap, subst, ◌∙◌, arith}
 use Rattle.std.specs.List.{list_all, Contains}
 use Rattle.iec_tables.specs.Letters.{raised}
 use Rattle.token_grammar.specs.Texts.{lexeme}

@@ -1,5 +1,5 @@
 -- The values of typed numbers: what is read of a whole text is one, and each one is read.
-use Rattle.std.proofs.Common.{◌≡◌, ℕ, zero, suc, Bool, true, false, cond, ◌&&◌, ◌||◌, List, [], ◌∷◌, ◌++◌, length, map, take, drop, codes, Option, Some, None, refl, sym, ap, subst, ◌∙◌, arith}
+use Rattle.std.proofs.Common.{◌≡◌, ℕ, zero, suc, Bool, true, false, cond, ◌||◌, List, [], ◌∷◌, ◌++◌, map, take, drop, codes, Option, Some, None, refl, sym, ap, subst, ◌∙◌, arith}
 use Rattle.std.specs.Prelude.{nat_eq, bytes_eq}
 use Rattle.std.specs.List.{list_any, Contains}
 use Rattle.std.proofs.lemmas.Bool.Decides.{nat_tests}
@@ -13,14 +13,14 @@ use Rattle.st_lexer.specs.Texts as texts
 use Rattle.st_lexer.specs.Texts.{is_word_of, type_words, IsSign, IsTyped}
 use Rattle.st_lexer.specs.Front.{found_in, hash_follows, word_length}
 use Rattle.st_lexer.specs.Values as values
-use Rattle.st_lexer.specs.Values.{typed_elems, named_types, with_names, signs, truths, IsNumberValue, IsSignedValue, IsTypedValue}
-use Rattle.st_lexer.specs.steps.Readings.{number_of, of_number, signed_of, truth_words, truth_of, or_signed, behind_type, typed_by, typed_of}
+use Rattle.st_lexer.specs.Values.{typed_elems, named_types, with_names, signs, truth_values, IsNumberValue, IsSignedValue, IsTypedValue}
+use Rattle.st_lexer.specs.steps.Readings.{read_number, of_type, read_signed, truth_words, read_truth, or_signed, behind_type, typed_by, read_typed}
 use Rattle.st_lexer.proofs.Tests.{same, equal, or_right}
 use Rattle.st_lexer.proofs.Tables.{distinct, found_there, found_row}
 use Rattle.st_lexer.proofs.Runs.{split_at}
 use Rattle.st_lexer.proofs.Leads.{all_letters, first_letter, type_letters, raised_split}
 use Rattle.st_lexer.proofs.LeadTexts.{number_first}
-use Rattle.st_lexer.proofs.Numerals.{hashed, hash_first}
+use Rattle.st_lexer.proofs.Numerals.{hashed}
 use Rattle.st_lexer.proofs.Raising.{raised_append}
 use Rattle.st_lexer.proofs.NumberValues.{number_some, number_found, some_number, only_number}
 
@@ -68,20 +68,20 @@ abbrev SignedHere : Elem → List ℕ → TypedValue → Type 0
 SignedHere t bytes v = (v.elem ≡ t) × IsSignedValue bytes v.negative v.size
 
 signed_here : (t : Elem) (negative : Bool) (sign digits bytes : List ℕ) (v : TypedValue) → Contains signs (negative, sign) → bytes ≡ sign ++ digits
-    → of_number t negative (number_of digits) ≡ Some v → SignedHere t bytes v
-signed_here t negative sign digits bytes v there text_is e = by (number_of digits) refl e
+    → of_type t negative (read_number digits) ≡ Some v → SignedHere t bytes v
+signed_here t negative sign digits bytes v there text_is e = by (read_number digits) refl e
   where
-    by : (o : Option ℕ) → number_of digits ≡ o → of_number t negative o ≡ Some v → SignedHere t bytes v
+    by : (o : Option ℕ) → read_number digits ≡ o → of_type t negative o ≡ Some v → SignedHere t bytes v
     by None at h = absurd cc
     by (Some size) at h =
         let is : typed_value t negative size ≡ v = cc in
         subst (λ (x : TypedValue). SignedHere t bytes x) is (refl, record { sign = sign; digits = digits; text_is = text_is; is_sign = there; number = number_some digits size at })
 
-signed_some : (t : Elem) (bytes : List ℕ) (v : TypedValue) → signed_of t bytes ≡ Some v → SignedHere t bytes v
+signed_some : (t : Elem) (bytes : List ℕ) (v : TypedValue) → read_signed t bytes ≡ Some v → SignedHere t bytes v
 signed_some t bytes v e = by (begins (nat_eq 45) bytes) (begins (nat_eq 43) bytes) refl refl e
   where
     by : (m p : Bool) → begins (nat_eq 45) bytes ≡ m → begins (nat_eq 43) bytes ≡ p
-        → cond m (of_number t true (number_of (drop 1 bytes))) (cond p (of_number t false (number_of (drop 1 bytes))) (of_number t false (number_of bytes))) ≡ Some v → SignedHere t bytes v
+        → cond m (of_type t true (read_number (drop 1 bytes))) (cond p (of_type t false (read_number (drop 1 bytes))) (of_type t false (read_number bytes))) ≡ Some v → SignedHere t bytes v
     by true p e1 e2 h = signed_here t true (codes "-") (drop 1 bytes) bytes v (2, omega arith, refl) (first_is 45 bytes e1) h
     by false true e1 e2 h = signed_here t false (codes "+") (drop 1 bytes) bytes v (1, omega arith, refl) (first_is 43 bytes e2) h
     by false false e1 e2 h = signed_here t false [] bytes bytes v (0, omega arith, refl) refl h
@@ -93,24 +93,24 @@ no_sign : (bytes : List ℕ) → begins is_digit bytes ≡ true → (begins (nat
 no_sign [] e = absurd cc
 no_sign (b ∷ bytes) e = digit_no b e
 
-bare_found : (t : Elem) (bytes : List ℕ) (size : ℕ) → IsNumberValue bytes size → signed_of t bytes ≡ Some (typed_value t false size)
+bare_found : (t : Elem) (bytes : List ℕ) (size : ℕ) → IsNumberValue bytes size → read_signed t bytes ≡ Some (typed_value t false size)
 bare_found t bytes size n =
     let no = no_sign bytes (number_first bytes (only_number bytes size n)) in
     rw (no.0, no.1, number_found bytes size n) refl
 
 sign_found : (t : Elem) (negative : Bool) (sign digits : List ℕ) (size : ℕ) → Contains signs (negative, sign) → IsNumberValue digits size
-    → signed_of t (sign ++ digits) ≡ Some (typed_value t negative size)
+    → read_signed t (sign ++ digits) ≡ Some (typed_value t negative size)
 sign_found t negative sign digits size (zero, lt, at) n = rw (← ap (λ (r : Bool × List ℕ). r.0) at, ← ap (λ (r : Bool × List ℕ). r.1) at) (bare_found t digits size n)
 sign_found t negative sign digits size (suc zero, lt, at) n = rw (← ap (λ (r : Bool × List ℕ). r.0) at, ← ap (λ (r : Bool × List ℕ). r.1) at, number_found digits size n) refl
 sign_found t negative sign digits size (suc (suc zero), lt, at) n = rw (← ap (λ (r : Bool × List ℕ). r.0) at, ← ap (λ (r : Bool × List ℕ). r.1) at, number_found digits size n) refl
 sign_found t negative sign digits size (suc (suc (suc i)), lt, at) n = absurd (omega (arith, lt))
 
-signed_found : (t : Elem) (bytes : List ℕ) (negative : Bool) (size : ℕ) → IsSignedValue bytes negative size → signed_of t bytes ≡ Some (typed_value t negative size)
-signed_found t bytes negative size s = ap (signed_of t) s.text_is ∙ sign_found t negative s.sign s.digits size s.is_sign s.number
+signed_found : (t : Elem) (bytes : List ℕ) (negative : Bool) (size : ℕ) → IsSignedValue bytes negative size → read_signed t bytes ≡ Some (typed_value t negative size)
+signed_found t bytes negative size s = ap (read_signed t) s.text_is ∙ sign_found t negative s.sign s.digits size s.is_sign s.number
 
 -- ---- truth values
 
-truth_some : (t : Elem) (w : List ℕ) (size : ℕ) → truth_of t w ≡ Some size → (t ≡ elem.Bool) × Contains truth_words (size, map raised w)
+truth_some : (t : Elem) (w : List ℕ) (size : ℕ) → read_truth t w ≡ Some size → (t ≡ elem.Bool) × Contains truth_words (size, map raised w)
 truth_some elem.Bool w size e = (refl, found_there truth_words (map raised w) size e)
 truth_some elem.Sint w size e = absurd cc
 truth_some elem.Int w size e = absurd cc
@@ -127,7 +127,7 @@ truth_some elem.Lword w size e = absurd cc
 truth_some elem.Time w size e = absurd cc
 
 -- behind BOOL and a `#`
-truth_text : (size : ℕ) (text r : List ℕ) → map raised text ≡ codes "BOOL" ++ 35 ∷ r → Contains truth_words (size, r) → Contains truths (size, map raised text)
+truth_text : (size : ℕ) (text r : List ℕ) → map raised text ≡ codes "BOOL" ++ 35 ∷ r → Contains truth_words (size, r) → Contains truth_values (size, map raised text)
 truth_text size text r e (zero, lt, at) = (0, omega arith, ap (λ (x : ℕ × List ℕ). (x.0, codes "BOOL" ++ 35 ∷ x.1)) at ∙ ap (λ (x : List ℕ). (size, x)) (sym e))
 truth_text size text r e (suc zero, lt, at) = (1, omega arith, ap (λ (x : ℕ × List ℕ). (x.0, codes "BOOL" ++ 35 ∷ x.1)) at ∙ ap (λ (x : List ℕ). (size, x)) (sym e))
 truth_text size text r e (suc (suc i), lt, at) = absurd (omega (arith, lt))
@@ -151,10 +151,10 @@ no_letter negative sign digits (suc zero, lt, at) d l = let h : false ≡ true =
 no_letter negative sign digits (suc (suc zero), lt, at) d l = let h : false ≡ true = ap (λ (r : Bool × List ℕ). begins is_letter (r.1 ++ digits)) at ∙ l in cc
 no_letter negative sign digits (suc (suc (suc i)), lt, at) d l = absurd (omega (arith, lt))
 
-no_truth : (t : Elem) (bytes : List ℕ) (negative : Bool) (size : ℕ) → IsSignedValue bytes negative size → truth_of t bytes ≡ None
-no_truth t bytes negative size s = by (truth_of t bytes) refl
+no_truth : (t : Elem) (bytes : List ℕ) (negative : Bool) (size : ℕ) → IsSignedValue bytes negative size → read_truth t bytes ≡ None
+no_truth t bytes negative size s = by (read_truth t bytes) refl
   where
-    by : (o : Option ℕ) → truth_of t bytes ≡ o → o ≡ None
+    by : (o : Option ℕ) → read_truth t bytes ≡ o → o ≡ None
     by None e = refl
     by (Some n) e =
         let letter = truth_first bytes (map raised bytes) n refl (truth_some t bytes n e).1 in
@@ -171,16 +171,16 @@ typed_by_truth text word r t size v text_is name (is_bool, there) e =
 
 behind_some : (text word r : List ℕ) (t : Elem) (v : TypedValue) → text ≡ word ++ 35 ∷ r → Contains named_types (t, map raised word) → behind_type t r ≡ Some v → IsTypedValue text v
 unfolding behind_type
-behind_some text word r t v text_is there e = by (truth_of t r) refl e
+behind_some text word r t v text_is there e = by (read_truth t r) refl e
   where
-    by : (o : Option ℕ) → truth_of t r ≡ o → or_signed t o r ≡ Some v → IsTypedValue text v
+    by : (o : Option ℕ) → read_truth t r ≡ o → or_signed t o r ≡ Some v → IsTypedValue text v
     by (Some size) at h = typed_by_truth text word r t size v text_is (row_name typed_elems t (map raised word) there) (truth_some t r size at) (let is : typed_value t false size ≡ v = cc in is)
     by None at h =
         let s = signed_some t r v h in
         values.number word r text_is (subst (λ (x : Elem). Contains named_types (x, map raised word)) (sym s.0) there) s.1
 
-pub typed_some : (text : List ℕ) (v : TypedValue) → typed_of text ≡ Some v → IsTypedValue text v
-unfolding typed_of
+pub typed_some : (text : List ℕ) (v : TypedValue) → read_typed text ≡ Some v → IsTypedValue text v
+unfolding read_typed
 typed_some text v e = by (found_in named_types (map raised word)) refl e
   where
     word : List ℕ
@@ -199,8 +199,8 @@ typed_some text v e = by (found_in named_types (map raised word)) refl e
     by None at h = absurd cc
     by (Some t) at h = by_hash t (hash_follows rest) (found_there named_types (map raised word) t at) refl h
 
-split_found : (text word r : List ℕ) (t : Elem) → text ≡ word ++ 35 ∷ r → Contains named_types (t, map raised word) → typed_of text ≡ behind_type t r
-unfolding typed_of
+split_found : (text word r : List ℕ) (t : Elem) → text ≡ word ++ 35 ∷ r → Contains named_types (t, map raised word) → read_typed text ≡ behind_type t r
+unfolding read_typed
 split_found text word r t text_is there =
     let h = hashed text word r text_is (all_letters word (type_letters word (type_word t word there)).all) in
     let found : found_in named_types (map raised (take (word_length text) text)) ≡ Some t =
@@ -216,22 +216,22 @@ signed_behind t r negative size s = rw (no_truth t r negative size s) (signed_fo
 same_value : (v : TypedValue) (t : Elem) (negative : Bool) (size : ℕ) → v.elem ≡ t → v.negative ≡ negative → v.size ≡ size → typed_value t negative size ≡ v
 same_value v t negative size e1 e2 e3 = rw (← e1, ← e2, ← e3) refl
 
-truth_behind : (text : List ℕ) (size : ℕ) (w : List ℕ) → map raised text ≡ codes "BOOL" ++ 35 ∷ w → found_in truth_words w ≡ Some size → typed_of text ≡ Some (typed_value elem.Bool false size)
+truth_behind : (text : List ℕ) (size : ℕ) (w : List ℕ) → map raised text ≡ codes "BOOL" ++ 35 ∷ w → found_in truth_words w ≡ Some size → read_typed text ≡ Some (typed_value elem.Bool false size)
 unfolding behind_type
 truth_behind text size w e found =
     let s = raised_split text (codes "BOOL") w e in
     let there : Contains named_types (elem.Bool, map raised s.word) = (8, omega arith, ap (λ (x : List ℕ). (elem.Bool, x)) (sym s.word_is)) in
-    let is : truth_of elem.Bool s.rest ≡ Some size = ap (found_in truth_words) s.rest_is ∙ found in
+    let is : read_truth elem.Bool s.rest ≡ Some size = ap (found_in truth_words) s.rest_is ∙ found in
     split_found text s.word s.rest elem.Bool s.text_is there ∙ rw is refl
 
-truth_found : (text : List ℕ) (size : ℕ) → Contains truths (size, map raised text) → typed_of text ≡ Some (typed_value elem.Bool false size)
+truth_found : (text : List ℕ) (size : ℕ) → Contains truth_values (size, map raised text) → read_typed text ≡ Some (typed_value elem.Bool false size)
 truth_found text size (zero, lt, at) =
     truth_behind text 1 (codes "TRUE") (sym (ap (λ (x : ℕ × List ℕ). x.1) at)) refl ∙ ap (λ (x : ℕ × List ℕ). Some (typed_value elem.Bool false x.0)) at
 truth_found text size (suc zero, lt, at) =
     truth_behind text 0 (codes "FALSE") (sym (ap (λ (x : ℕ × List ℕ). x.1) at)) refl ∙ ap (λ (x : ℕ × List ℕ). Some (typed_value elem.Bool false x.0)) at
 truth_found text size (suc (suc i), lt, at) = absurd (omega (arith, lt))
 
-pub typed_found : (text : List ℕ) (v : TypedValue) → IsTypedValue text v → typed_of text ≡ Some v
+pub typed_found : (text : List ℕ) (v : TypedValue) → IsTypedValue text v → read_typed text ≡ Some v
 typed_found text v (values.number word r text_is there s) =
     split_found text word r v.elem text_is there ∙ signed_behind v.elem r v.negative v.size s ∙ ap (λ (x : TypedValue). Some x) (same_value v v.elem v.negative v.size refl refl refl)
 typed_found text v (values.truth there e1 e2) =
@@ -252,7 +252,7 @@ only_sign negative sign (suc (suc zero), lt, at) = (1, omega arith, ap (λ (r : 
 only_sign negative sign (suc (suc (suc i)), lt, at) = absurd (omega (arith, lt))
 
 some_truth : (text : List ℕ) (u w : Bool) → bytes_eq (map raised text) (codes "BOOL#TRUE") ≡ u → bytes_eq (map raised text) (codes "BOOL#FALSE") ≡ w
-    → (u || (w || false)) ≡ true → (size : ℕ) × Contains truths (size, map raised text)
+    → (u || (w || false)) ≡ true → (size : ℕ) × Contains truth_values (size, map raised text)
 some_truth text true w e1 e2 h = (1, (0, omega arith, ap (λ (t : List ℕ). (1, t)) (sym (same (map raised text) (codes "BOOL#TRUE") e1))))
 some_truth text false true e1 e2 h = (0, (1, omega arith, ap (λ (t : List ℕ). (0, t)) (sym (same (map raised text) (codes "BOOL#FALSE") e2))))
 some_truth text false false e1 e2 h = absurd cc
@@ -267,7 +267,7 @@ some_typed text (texts.truth e) =
     let t = some_truth text (bytes_eq (map raised text) (codes "BOOL#TRUE")) (bytes_eq (map raised text) (codes "BOOL#FALSE")) refl refl e in
     (typed_value elem.Bool false t.0, values.truth t.1 refl refl)
 
-only_truth : (text : List ℕ) (size : ℕ) → Contains truths (size, map raised text) → is_word_of (codes "BOOL#TRUE" ∷ codes "BOOL#FALSE" ∷ []) text ≡ true
+only_truth : (text : List ℕ) (size : ℕ) → Contains truth_values (size, map raised text) → is_word_of (codes "BOOL#TRUE" ∷ codes "BOOL#FALSE" ∷ []) text ≡ true
 only_truth text size (zero, lt, at) = rw (equal (map raised text) (codes "BOOL#TRUE") (sym (ap (λ (x : ℕ × List ℕ). x.1) at))) refl
 only_truth text size (suc zero, lt, at) = rw (equal (map raised text) (codes "BOOL#FALSE") (sym (ap (λ (x : ℕ × List ℕ). x.1) at))) (or_right (bytes_eq (map raised text) (codes "BOOL#TRUE")))
 only_truth text size (suc (suc i), lt, at) = absurd (omega (arith, lt))

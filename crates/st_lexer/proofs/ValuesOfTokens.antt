@@ -1,5 +1,5 @@
 -- Each number, typed number, time and address has exactly one value, and so has each such token.
-use Rattle.std.proofs.Common.{◌≡◌, ℕ, ◌^◌, ◌≤◌, ℤ, pos, neg_ℤ, ◌≤ℤ◌, Bool, true, false, sym, subst, arith}
+use Rattle.std.proofs.Common.{ℕ, ◌≤◌, Bool, true, false, sym, subst, arith}
 use Rattle.std.proofs.lemmas.Int.{ints}
 use Rattle.iec_tables.specs.Types.{IsInRange}
 use Rattle.iec_tables.specs.declared.elem.Elem.TheVariants as elem

@@ -9,9 +9,10 @@ use Rattle.token_grammar.specs.declared.token.TokenKind.{TokenKind}
 use Rattle.token_grammar.specs.declared.token.Token.{Token}
 use Rattle.st_lexer.specs.declared.values.Area.{Area}
 use Rattle.st_lexer.specs.declared.values.Width.{Width}
+use Rattle.st_lexer.specs.Bytes.{value_in}
 use Rattle.st_lexer.specs.Texts.{IsText}
 use Rattle.st_lexer.specs.Cut.{IsCut}
-use Rattle.st_lexer.specs.Values.{IsNumberValue, IsTimeValue, IsAddressValue}
+use Rattle.st_lexer.specs.Values.{plain_digits, positional, IsNumberValue, IsTimeValue, IsAddressValue}
 
 -- each text of the kind has a value, no other text has one, and no text has two
 pub record HaveOneValue {A : Type 0} (IsOne : List ℕ → Type 0) (HasValue : List ℕ → A → Type 0) : Type 0 where
@@ -32,6 +33,10 @@ pub record TokensHaveValues {A : Type 0} (k : TokenKind) (IsOne : List ℕ → T
   pub is : (text : List ℕ) (tokens : List Token) → IsCut text tokens → (t : Token) → Contains tokens t → t.kind ≡ k → IsOne (lexeme text t).bytes
   pub value : (text : List ℕ) (tokens : List Token) → IsCut text tokens → (t : Token) → Contains tokens t → t.kind ≡ k
       → (value : A) × HasValue (lexeme text t).bytes value
+
+-- the number that digits make, as texts of numerals and times are bounded by it, is the sum of the digits by their places
+abbrev pub DigitsByPlaces : Type 0
+DigitsByPlaces = (base : ℕ) (digits : List ℕ) → value_in base digits ≡ positional base (plain_digits digits)
 
 -- numbers are below 2^128
 abbrev pub NumbersSmall : Type 0

@@ -65,15 +65,15 @@ pub record IsSignedValue (text : List ℕ) (negative : Bool) (size : ℕ) : Type
   pub number : IsNumberValue digits size
 
 -- the truth values with their numbers
-abbrev pub truths : List (ℕ × List ℕ)
-truths = (1, codes "BOOL#TRUE") ∷ (0, codes "BOOL#FALSE") ∷ []
+abbrev pub truth_values : List (ℕ × List ℕ)
+truth_values = (1, codes "BOOL#TRUE") ∷ (0, codes "BOOL#FALSE") ∷ []
 
 -- The name of a type, `#`, and a number with a sign or none; or `BOOL#TRUE` or `BOOL#FALSE`, as 1 and 0 of BOOL. The
 -- number may lie outside the range of the type.
 pub data IsTypedValue (text : List ℕ) (value : TypedValue) : Type 0 where
   number : (word rest : List ℕ) → text ≡ word ++ 35 ∷ rest → Contains named_types (value.elem, map raised word)
       → IsSignedValue rest value.negative value.size → IsTypedValue text value
-  truth : Contains truths (value.size, map raised text) → value.elem ≡ elem.Bool → value.negative ≡ false
+  truth : Contains truth_values (value.size, map raised text) → value.elem ≡ elem.Bool → value.negative ≡ false
       → IsTypedValue text value
 
 -- ---- times

@@ -72,14 +72,14 @@ fn is_numeral(base: u8, bytes: &[u8]) -> bool
     requires { base ≤ 16 }
     ensures { result ≡ fronts.goes_on base true 0 bytes.now }
 {
-    numeral_of(base, bytes).is_some()
+    read_numeral(base, bytes).is_some()
 }
 
 /// The number that the bytes are, where they are digits in the base, single underscores between them, of one below 2^128.
 #[tactic(auto, unfolding(crate::specs::Front::goes_on))]
-fn numeral_of(base: u8, bytes: &[u8]) -> Option<u128>
+fn read_numeral(base: u8, bytes: &[u8]) -> Option<u128>
     requires { base ≤ 16 }
-    ensures { result ≡ readings.numeral_of base bytes.now }
+    ensures { result ≡ readings.read_numeral base bytes.now }
 {
     let mut after = true;
     let mut value = 0u128;
@@ -104,15 +104,15 @@ fn numeral_of(base: u8, bytes: &[u8]) -> Option<u128>
 }
 
 /// The value of a text that is a number as a whole.
-#[tactic(auto, unfolding(crate::specs::steps::Readings::number_of))]
-pub(crate) fn number_of(text: &[u8]) -> Option<u128>
-    ensures { result ≡ readings.number_of text.now }
+#[tactic(auto, unfolding(crate::specs::steps::Readings::read_number))]
+pub(crate) fn read_number(text: &[u8]) -> Option<u128>
+    ensures { result ≡ readings.read_number text.now }
 {
     match text {
-        [b'2', b'#', digits @ ..] => numeral_of(2, digits),
-        [b'8', b'#', digits @ ..] => numeral_of(8, digits),
-        [b'1', b'6', b'#', digits @ ..] => numeral_of(16, digits),
-        _ => numeral_of(10, text),
+        [b'2', b'#', digits @ ..] => read_numeral(2, digits),
+        [b'8', b'#', digits @ ..] => read_numeral(8, digits),
+        [b'1', b'6', b'#', digits @ ..] => read_numeral(16, digits),
+        _ => read_numeral(10, text),
     }
 }
 

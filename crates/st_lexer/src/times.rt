@@ -59,9 +59,9 @@ fn parts_at(above: u128, left: u128, bytes: &[u8]) -> Option<usize>
 }
 
 /// The milliseconds of a text that is a time as a whole.
-#[tactic(auto, unfolding(crate::specs::steps::Readings::time_of))]
-pub(crate) fn time_of(text: &[u8]) -> Option<i64>
-    ensures { result ≡ readings.time_of text.now }
+#[tactic(auto, unfolding(crate::specs::steps::Readings::read_time))]
+pub(crate) fn read_time(text: &[u8]) -> Option<i64>
+    ensures { result ≡ readings.read_time text.now }
 {
     let length = word_length(text);
     if is_time_word(&text[..length]) {
@@ -76,32 +76,32 @@ fn behind_word(rest: &[u8]) -> Option<i64>
     ensures { result ≡ readings.behind_word rest.now }
 {
     match rest {
-        [b'#', b'-', parts @ ..] => negative_of(parts),
-        [b'#', parts @ ..] => positive_of(parts),
+        [b'#', b'-', parts @ ..] => read_negative(parts),
+        [b'#', parts @ ..] => read_positive(parts),
         _ => None,
     }
 }
 
 /// The milliseconds of parts behind a minus.
-fn negative_of(parts: &[u8]) -> Option<i64>
-    ensures { result ≡ readings.negative (readings.whole_parts (2 ^ 63) parts.now) }
+fn read_negative(parts: &[u8]) -> Option<i64>
+    ensures { result ≡ readings.as_negative (readings.whole_parts (2 ^ 63) parts.now) }
 {
-    let size = parts_of(ABOVE_UNITS, 1 << 63, parts)?;
+    let size = read_parts(ABOVE_UNITS, 1 << 63, parts)?;
     Some((-(size as i128)) as i64)
 }
 
 /// The milliseconds of parts without a minus.
-fn positive_of(parts: &[u8]) -> Option<i64>
-    ensures { result ≡ readings.positive (readings.whole_parts (2 ^ 63 - 1) parts.now) }
+fn read_positive(parts: &[u8]) -> Option<i64>
+    ensures { result ≡ readings.as_positive (readings.whole_parts (2 ^ 63 - 1) parts.now) }
 {
-    let size = parts_of(ABOVE_UNITS, (1 << 63) - 1, parts)?;
+    let size = read_parts(ABOVE_UNITS, (1 << 63) - 1, parts)?;
     Some(size as i64)
 }
 
 /// The milliseconds of bytes that are parts as a whole: units are below `above` and fall, and the sum is `left` at most.
-#[tactic(auto, unfolding(crate::specs::steps::Readings::parts_of))]
-fn parts_of(above: u128, left: u128, bytes: &[u8]) -> Option<u128>
-    ensures value { (n : ℕ) → length bytes.now < n → result ≡ readings.parts_of n above left bytes.now }
+#[tactic(auto, unfolding(crate::specs::steps::Readings::read_parts))]
+fn read_parts(above: u128, left: u128, bytes: &[u8]) -> Option<u128>
+    ensures value { (n : ℕ) → length bytes.now < n → result ≡ readings.read_parts n above left bytes.now }
     ensures small { IfSome result (λ sum. sum ≤ left) }
 {
     let part = part_at(bytes)?;
@@ -116,7 +116,7 @@ fn parts_of(above: u128, left: u128, bytes: &[u8]) -> Option<u128>
         return None;
     }
     let further = &rest[link_length(rest)..];
-    let more = parts_of(part.size, left - part.value, further)?;
+    let more = read_parts(part.size, left - part.value, further)?;
     Some(part.value + more)
 }
 

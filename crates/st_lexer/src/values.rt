@@ -10,9 +10,9 @@ ghost use Rattle.st_lexer.specs.steps.Readings as readings;
 
 use crate::addresses::numbers_at;
 use crate::bytes::word_length;
-use crate::numbers::number_of;
-use crate::times::time_of;
-use crate::words::{is_same, type_of};
+use crate::numbers::read_number;
+use crate::times::read_time;
+use crate::words::{is_same, named_type};
 use iec_tables::elem::Elem;
 use iec_tables::letters::raise;
 
@@ -74,7 +74,7 @@ pub fn number_value(text: &[u8]) -> Option<u128>
     ensures value { IfSome result (λ value. spec.IsNumberValue text.now value) }
     ensures some { IsNumber text.now → IsSome result }
 {
-    number_of(text)
+    read_number(text)
 }
 
 /// The value of a typed number; none where the text isn't one.
@@ -82,7 +82,7 @@ pub fn typed_value(text: &[u8]) -> Option<TypedValue>
     ensures value { IfSome result (λ value. spec.IsTypedValue text.now value) }
     ensures some { IsTyped text.now → IsSome result }
 {
-    typed_of(text)
+    read_typed(text)
 }
 
 /// The milliseconds of a time; none where the text isn't one.
@@ -90,7 +90,7 @@ pub fn time_value(text: &[u8]) -> Option<i64>
     ensures value { IfSome result (λ value. spec.IsTimeValue text.now value) }
     ensures some { IsTime text.now → IsSome result }
 {
-    time_of(text)
+    read_time(text)
 }
 
 /// The parts of an address; none where the text isn't one.
@@ -99,7 +99,7 @@ pub fn address_value<'t>(text: &'t [u8]) -> Option<AddressValue<'t>>
         (λ value. spec.IsAddressValue text.now value.area value.width value.numbers.now) }
     ensures some { IsAddress text.now → IsSome result }
 {
-    address_of(text)
+    read_address(text)
 }
 
 /// The number of that size, with a minus or none; none where it is outside -2^127 + 1 to 2^127 - 1, which is outside
@@ -119,6 +119,7 @@ pub fn with_sign(negative: bool, size: u128) -> Option<i128>
 /// has the text of its kind, so that each token of these four kinds has a value.
 pub fn value_laws()
     ensures texts { laws.TokensHaveTexts }
+    ensures digits { laws.DigitsByPlaces }
     ensures numbers { laws.HaveOneValue IsNumber spec.IsNumberValue }
     ensures number_tokens { laws.TokensHaveValues kind.Number IsNumber spec.IsNumberValue }
     ensures numbers_small { laws.NumbersSmall }
@@ -132,12 +133,12 @@ pub fn value_laws()
 {}
 
 /// The value of a text that is a typed number as a whole.
-#[tactic(auto, unfolding(crate::specs::steps::Readings::typed_of))]
-fn typed_of(text: &[u8]) -> Option<TypedValue>
-    ensures { result ≡ readings.typed_of text.now }
+#[tactic(auto, unfolding(crate::specs::steps::Readings::read_typed))]
+fn read_typed(text: &[u8]) -> Option<TypedValue>
+    ensures { result ≡ readings.read_typed text.now }
 {
     let length = word_length(text);
-    let elem = type_of(&text[..length])?;
+    let elem = named_type(&text[..length])?;
     match &text[length..] {
         [b'#', rest @ ..] => behind_type(elem, rest),
         _ => None,
@@ -149,19 +150,19 @@ fn typed_of(text: &[u8]) -> Option<TypedValue>
 fn behind_type(elem: Elem, rest: &[u8]) -> Option<TypedValue>
     ensures { result ≡ readings.behind_type elem rest.now }
 {
-    match truth_of(elem, rest) {
+    match read_truth(elem, rest) {
         Some(size) => Some(TypedValue {
             elem,
             negative: false,
             size,
         }),
-        None => signed_of(elem, rest),
+        None => read_signed(elem, rest),
     }
 }
 
 /// The number of TRUE or FALSE behind BOOL.
-fn truth_of(elem: Elem, word: &[u8]) -> Option<u128>
-    ensures { result ≡ readings.truth_of elem word.now }
+fn read_truth(elem: Elem, word: &[u8]) -> Option<u128>
+    ensures { result ≡ readings.read_truth elem word.now }
 {
     if elem != Elem::Bool {
         return None;
@@ -176,53 +177,53 @@ fn truth_of(elem: Elem, word: &[u8]) -> Option<u128>
 }
 
 /// A number with a sign or none.
-fn signed_of(elem: Elem, bytes: &[u8]) -> Option<TypedValue>
-    ensures { result ≡ readings.signed_of elem bytes.now }
+fn read_signed(elem: Elem, bytes: &[u8]) -> Option<TypedValue>
+    ensures { result ≡ readings.read_signed elem bytes.now }
 {
     match bytes {
-        [b'-', digits @ ..] => of_number(elem, true, digits),
-        [b'+', digits @ ..] => of_number(elem, false, digits),
-        _ => of_number(elem, false, bytes),
+        [b'-', digits @ ..] => of_type(elem, true, digits),
+        [b'+', digits @ ..] => of_type(elem, false, digits),
+        _ => of_type(elem, false, bytes),
     }
 }
 
 /// A number with that sign, of a type.
-fn of_number(elem: Elem, negative: bool, digits: &[u8]) -> Option<TypedValue>
-    ensures { result ≡ readings.of_number elem negative (readings.number_of digits.now) }
+fn of_type(elem: Elem, negative: bool, digits: &[u8]) -> Option<TypedValue>
+    ensures { result ≡ readings.of_type elem negative (readings.read_number digits.now) }
 {
     Some(TypedValue {
         elem,
         negative,
-        size: number_of(digits)?,
+        size: read_number(digits)?,
     })
 }
 
 /// The parts of a text that is an address as a whole.
-fn address_of<'t>(text: &'t [u8]) -> Option<AddressValue<'t>>
-    ensures { readings.seen result ≡ readings.address_of text.now }
+fn read_address<'t>(text: &'t [u8]) -> Option<AddressValue<'t>>
+    ensures { readings.address_parts result ≡ readings.read_address text.now }
 {
     match text {
-        [b'%', area, rest @ ..] => located(area_of(*area)?, rest),
+        [b'%', area, rest @ ..] => read_width(area_by_letter(*area)?, rest),
         _ => None,
     }
 }
 
 /// The address in that area of a width or none and numbers.
-fn located<'t>(area: Area, bytes: &'t [u8]) -> Option<AddressValue<'t>>
-    ensures { readings.seen result ≡ readings.located area bytes.now }
+fn read_width<'t>(area: Area, bytes: &'t [u8]) -> Option<AddressValue<'t>>
+    ensures { readings.address_parts result ≡ readings.read_width area bytes.now }
 {
     match bytes.split_first() {
         None => None,
-        Some((first, numbers)) => match width_of(*first) {
-            Some(width) => numbered(area, width, numbers),
-            None => numbered(area, Width::Bit, bytes),
+        Some((first, numbers)) => match width_by_letter(*first) {
+            Some(width) => read_numbers(area, width, numbers),
+            None => read_numbers(area, Width::Bit, bytes),
         },
     }
 }
 
 /// The address of these numbers, where they are some.
-fn numbered<'t>(area: Area, width: Width, numbers: &'t [u8]) -> Option<AddressValue<'t>>
-    ensures { readings.seen result ≡ readings.numbered area width numbers.now }
+fn read_numbers<'t>(area: Area, width: Width, numbers: &'t [u8]) -> Option<AddressValue<'t>>
+    ensures { readings.address_parts result ≡ readings.read_numbers area width numbers.now }
 {
     match numbers_at(numbers) {
         Some(length) if length == numbers.len() => Some(AddressValue {
@@ -235,8 +236,8 @@ fn numbered<'t>(area: Area, width: Width, numbers: &'t [u8]) -> Option<AddressVa
 }
 
 /// The area of a letter.
-fn area_of(letter: u8) -> Option<Area>
-    ensures { result ≡ readings.area_of letter }
+fn area_by_letter(letter: u8) -> Option<Area>
+    ensures { result ≡ readings.area_by_letter letter }
 {
     match raise(letter) {
         b'I' => Some(Area::Input),
@@ -247,8 +248,8 @@ fn area_of(letter: u8) -> Option<Area>
 }
 
 /// The width of a letter.
-fn width_of(letter: u8) -> Option<Width>
-    ensures { result ≡ readings.width_of letter }
+fn width_by_letter(letter: u8) -> Option<Width>
+    ensures { result ≡ readings.width_by_letter letter }
 {
     match raise(letter) {
         b'X' => Some(Width::Bit),

@@ -178,11 +178,11 @@ pub(crate) fn is_same(word: &[u8], text: &[u8]) -> bool
 pub(crate) fn is_type_word(word: &[u8]) -> bool
     ensures { result ≡ is_word_of type_words word.now }
 {
-    type_of(word).is_some()
+    named_type(word).is_some()
 }
 
 /// The type other than TIME of that name.
-pub(crate) fn type_of(word: &[u8]) -> Option<Elem>
+pub(crate) fn named_type(word: &[u8]) -> Option<Elem>
     ensures { result ≡ fronts.found_in named_types (map raised word.now) }
 {
     type_among(&TYPES, word)

@@ -1,8 +1,7 @@
 // The values of numbers, typed numbers, times and addresses, worked out by hand; and texts that have none.
 use iec_tables::elem::Elem;
 use st_lexer::{
-    AddressValue, Area, TypedValue, Width, address_value, number_value, time_value, typed_value,
-    with_sign,
+    Area, Width, address_value, number_value, time_value, typed_value, with_sign,
 };
 
 const NUMBERS: [(&str, Option<u128>); 24] = [
@@ -119,19 +118,8 @@ const ADDRESSES: [(&str, Option<(Area, Width, &str)>); 16] = [
 
 #[test]
 fn values_of_numbers(rt: HostRuntime) {
-    for (text, value) in NUMBERS {
-        assert_eq!(rt; number_value(text.as_bytes()), value);
-    }
-    for (text, value) in TYPED {
-        let wanted = match value {
-            None => None,
-            Some((elem, negative, size)) => Some(TypedValue {
-                elem,
-                negative,
-                size,
-            }),
-        };
-        assert_eq!(rt; typed_value(text.as_bytes()), wanted);
+    for (text, value) in &NUMBERS {
+        assert_eq!(rt; number_value(text.as_bytes()), *value, "{text}");
     }
     assert_eq!(rt; with_sign(true, 5), Some(-5));
     assert_eq!(rt; with_sign(false, 5), Some(5));
@@ -139,20 +127,26 @@ fn values_of_numbers(rt: HostRuntime) {
 }
 
 #[test]
-fn values_of_times_and_addresses(rt: HostRuntime) {
-    for (text, value) in TIMES {
-        assert_eq!(rt; time_value(text.as_bytes()), value);
+fn values_of_typed_numbers(rt: HostRuntime) {
+    for (text, value) in &TYPED {
+        let found = typed_value(text.as_bytes()).map(|v| (v.elem, v.negative, v.size));
+        assert_eq!(rt; found, *value, "{text}");
     }
-    for (text, value) in ADDRESSES {
-        let wanted = match value {
-            None => None,
-            Some((area, width, numbers)) => Some(AddressValue {
-                area,
-                width,
-                numbers: numbers.as_bytes(),
-            }),
-        };
-        assert_eq!(rt; address_value(text.as_bytes()), wanted);
+}
+
+#[test]
+fn values_of_times(rt: HostRuntime) {
+    for (text, value) in &TIMES {
+        assert_eq!(rt; time_value(text.as_bytes()), *value, "{text}");
+    }
+}
+
+#[test]
+fn values_of_addresses(rt: HostRuntime) {
+    for (text, value) in &ADDRESSES {
+        let found = address_value(text.as_bytes()).map(|a| (a.area, a.width, a.numbers));
+        let wanted = value.map(|(area, width, numbers)| (area, width, numbers.as_bytes()));
+        assert_eq!(rt; found, wanted, "{text}");
     }
     assert_eq!(rt; Width::LongWord.elem(), Elem::Lword);
 }

@@ -1,10 +1,13 @@
-use Rattle.st_lexer.proofs.NumberValues.{number_small}
+use Rattle.st_lexer.proofs.NumberValues.{by_places, number_small}
 use Rattle.st_lexer.proofs.TokenTexts.{tokens_have_texts}
 use Rattle.st_lexer.proofs.ValuesOfTokens as law
 use Rattle.st_lexer.proofs.values.value_laws.Goals as goal
 
 pub returns-clause-texts : goal.returns-clause-texts
 returns-clause-texts c = tokens_have_texts
+
+pub returns-clause-digits : goal.returns-clause-digits
+returns-clause-digits c = by_places
 
 pub returns-clause-numbers : goal.returns-clause-numbers
 returns-clause-numbers c = law.numbers

@@ -1,10 +1,10 @@
-use Rattle.std.proofs.Common.{◌≡◌, ◌+◌, ◌-◌, ℕ, true, false, Some, sym, ap, ◌∙◌, length, take, drop, arith}
+use Rattle.std.proofs.Common.{◌≡◌, ◌-◌, true, false, Some, sym, ap, ◌∙◌, length, take, drop, arith}
 use Rattle.std.specs.Prelude.{nat_eq}
 use Rattle.st_lexer.specs.Front.{part_at, link_length}
 use Rattle.st_lexer.specs.steps.Readings.{added}
 use Rattle.st_lexer.proofs.TimeParts.{to_end}
-use Rattle.st_lexer.proofs.PartValues.{last_part, more_parts}
-use Rattle.st_lexer.proofs.times.+parts_of.Goals as goal
+use Rattle.st_lexer.proofs.PartValues.{last_part, parts_behind}
+use Rattle.st_lexer.proofs.times.+read_parts.Goals as goal
 
 pub returns-then-is_empty-clause-value : goal.returns-then-is_empty-clause-value
 returns-then-is_empty-clause-value t c n lt =
@@ -25,7 +25,7 @@ returns-in_err-more-clause-value t c n lt =
     let seen = take (length bytes - p.length) (drop p.length bytes) in
     let further : take (length seen - c.link_length.result) (drop c.link_length.result seen) ≡ drop (link_length (drop p.length bytes)) (drop p.length bytes) =
     to_end seen c.link_length.result ∙ ap (λ xs. drop c.link_length.result xs) rest ∙ ap (λ k. drop k (drop p.length bytes)) link in
-    let told = more_parts n c.args.above c.args.left bytes p c.parts_of.result lt at (omega arith) (omega arith) goes c.if-part.false c.in_ok-part.ensures.some c.in_ok-part.ensures.within _ further c.parts_of.ensures.value in
+    let told = parts_behind n c.args.above c.args.left bytes p c.read_parts.result lt at (omega arith) (omega arith) goes c.if-part.false c.in_ok-part.ensures.some c.in_ok-part.ensures.within _ further c.read_parts.ensures.value in
     c.from_residual-in_err-more.ensures ∙ sym (ap (added p.value) c.in_err-more.was) ∙ told
 
 pub returns-clause-value : goal.returns-clause-value
@@ -39,5 +39,5 @@ returns-clause-value t c n lt =
     let seen = take (length bytes - p.length) (drop p.length bytes) in
     let further : take (length seen - c.link_length.result) (drop c.link_length.result seen) ≡ drop (link_length (drop p.length bytes)) (drop p.length bytes) =
     to_end seen c.link_length.result ∙ ap (λ xs. drop c.link_length.result xs) rest ∙ ap (λ k. drop k (drop p.length bytes)) link in
-    let told = more_parts n c.args.above c.args.left bytes p c.parts_of.result lt at (omega arith) (omega arith) goes c.if-part.false c.in_ok-part.ensures.some c.in_ok-part.ensures.within _ further c.parts_of.ensures.value in
+    let told = parts_behind n c.args.above c.args.left bytes p c.read_parts.result lt at (omega arith) (omega arith) goes c.if-part.false c.in_ok-part.ensures.some c.in_ok-part.ensures.within _ further c.read_parts.ensures.value in
     sym (ap (added p.value) c.in_ok-more.was) ∙ told

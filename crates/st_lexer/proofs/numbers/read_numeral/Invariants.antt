@@ -1,7 +1,7 @@
 use Rattle.std.proofs.Common.{◌≡◌, true, length, fold}
 use Rattle.st_lexer.specs.Bytes.{one_more, value_in}
 use Rattle.st_lexer.specs.Front.{goes_on}
-use Rattle.st_lexer.proofs.numbers.numeral_of.Given as goal
+use Rattle.st_lexer.proofs.numbers.read_numeral.Given as goal
 
 abbrev pub invariant-digit : goal.invariant-digit
 invariant-digit l = record {
