@@ -38,9 +38,12 @@ time_tokens = tokens_have_values kind.Duration IsTime IsTimeValue time_text time
 pub address_tokens : TokensHaveValues kind.Address IsAddress IsAddressWith
 address_tokens = tokens_have_values kind.Address IsAddress IsAddressWith address_text addresses
 
-in_range : (minus : Bool) (size : ℕ) → size ≤ greatest minus → IsInRange elem.Time (with_sign minus size)
+in_range : (minus : Bool) (size : ℕ) → size ≤ greatest minus
+    → IsInRange elem.Time (with_sign minus size)
 in_range true size h = (omega (arith, ints, h), omega (arith, ints, h))
 in_range false size h = (omega (arith, ints, h), omega (arith, ints, h))
 
 pub times_in_range : TimesInRange
-times_in_range text z v = subst (IsInRange elem.Time) (sym v.value_is) (in_range v.time.negative (sum_of v.time.parts) v.time.in_range)
+times_in_range text z v =
+    subst (IsInRange elem.Time) (sym v.value_is)
+    (in_range v.time.negative (sum_of v.time.parts) v.time.in_range)

@@ -1,5 +1,6 @@
--- What holds of the values of all texts: each number, typed number, time and address has exactly one value and nothing
--- else has one, and each token of these kinds in a cut is such a text. Source: this profile.
+-- What holds of the values of all texts: each number, typed number, time and address has exactly one
+-- value and nothing else has one, and each token of these kinds in a cut is such a text. Source:
+-- this profile.
 use Rattle.std.specs.Prelude.{◌≡◌, ℕ, ◌^◌, ◌<◌, ℤ, List}
 use Rattle.std.specs.List.{Contains}
 use Rattle.iec_tables.specs.Types.{IsInRange}
@@ -15,7 +16,8 @@ use Rattle.st_lexer.specs.Cut.{IsCut}
 use Rattle.st_lexer.specs.Values.{plain_digits, positional, IsNumberValue, IsTimeValue, IsAddressValue}
 
 -- each text of the kind has a value, no other text has one, and no text has two
-pub record HaveOneValue {A : Type 0} (IsOne : List ℕ → Type 0) (HasValue : List ℕ → A → Type 0) : Type 0 where
+pub record HaveOneValue {A : Type 0} (IsOne : List ℕ → Type 0) (HasValue : List ℕ → A → Type 0)
+    : Type 0 where
   pub some : (text : List ℕ) → IsOne text → (value : A) × HasValue text value
   pub only : (text : List ℕ) (value : A) → HasValue text value → IsOne text
   pub one : (text : List ℕ) (v w : A) → HasValue text v → HasValue text w → v ≡ w
@@ -26,17 +28,24 @@ IsAddressWith text parts = IsAddressValue text parts.0 parts.1 parts.2
 
 -- each token of a cut has the text of its kind
 abbrev pub TokensHaveTexts : Type 0
-TokensHaveTexts = (text : List ℕ) (tokens : List Token) → IsCut text tokens → (t : Token) → Contains tokens t → IsText t.kind (lexeme text t).bytes
+TokensHaveTexts =
+    (text : List ℕ) (tokens : List Token) → IsCut text tokens → (t : Token) → Contains tokens t
+    → IsText t.kind (lexeme text t).bytes
 
 -- each token of that kind in a cut is such a text, and has a value
-pub record TokensHaveValues {A : Type 0} (k : TokenKind) (IsOne : List ℕ → Type 0) (HasValue : List ℕ → A → Type 0) : Type 0 where
-  pub is : (text : List ℕ) (tokens : List Token) → IsCut text tokens → (t : Token) → Contains tokens t → t.kind ≡ k → IsOne (lexeme text t).bytes
-  pub value : (text : List ℕ) (tokens : List Token) → IsCut text tokens → (t : Token) → Contains tokens t → t.kind ≡ k
+pub record TokensHaveValues {A : Type 0} (k : TokenKind) (IsOne : List ℕ → Type 0)
+    (HasValue : List ℕ → A → Type 0) : Type 0 where
+  pub is : (text : List ℕ) (tokens : List Token) → IsCut text tokens → (t : Token)
+      → Contains tokens t → t.kind ≡ k → IsOne (lexeme text t).bytes
+  pub value : (text : List ℕ) (tokens : List Token) → IsCut text tokens → (t : Token)
+      → Contains tokens t → t.kind ≡ k
       → (value : A) × HasValue (lexeme text t).bytes value
 
--- the number that digits make, as texts of numerals and times are bounded by it, is the sum of the digits by their places
+-- The number by which texts of numerals and times are bounded, one digit after the other, is the sum
+-- of the digits by their places.
 abbrev pub DigitsByPlaces : Type 0
-DigitsByPlaces = (base : ℕ) (digits : List ℕ) → value_in base digits ≡ positional base (plain_digits digits)
+DigitsByPlaces =
+    (base : ℕ) (digits : List ℕ) → value_in base digits ≡ positional base (plain_digits digits)
 
 -- numbers are below 2^128
 abbrev pub NumbersSmall : Type 0
@@ -44,4 +53,6 @@ NumbersSmall = (text : List ℕ) (value : ℕ) → IsNumberValue text value → 
 
 -- times are in the range of TIME
 abbrev pub TimesInRange : Type 0
-TimesInRange = (text : List ℕ) (milliseconds : ℤ) → IsTimeValue text milliseconds → IsInRange elem.Time milliseconds
+TimesInRange =
+    (text : List ℕ) (milliseconds : ℤ) → IsTimeValue text milliseconds
+    → IsInRange elem.Time milliseconds

@@ -1,6 +1,6 @@
--- The values of numbers, typed numbers, times and addresses, as relations on their texts. Source: numeric, typed and
--- duration literals and directly represented variables of the standard, on the texts that this profile takes. The code
--- reads a text once from its start, with one running value.
+-- The values of numbers, typed numbers, times and addresses, as relations on their texts. Source:
+-- numeric, typed and duration literals and directly represented variables of the standard, on the
+-- texts that this profile takes. The code reads a text once from its start, with a running value.
 use Rattle.std.specs.Prelude.{◌≡◌, ℕ, ◌+◌, ◌*◌, ◌^◌, ℤ, pos, neg_ℤ, Bool, true, false, not, if◌then◌else◌, nat_eq, List, [], ◌∷◌, ◌++◌, length, map, filter, codes}
 use Rattle.std.specs.List.{Contains}
 use Rattle.iec_tables.specs.Letters.{raised}
@@ -27,11 +27,12 @@ abbrev pub positional : (base : ℕ) → List ℕ → ℕ
 positional base [] = 0
 positional base (digit ∷ digits) = worth digit * base ^ length digits + positional base digits
 
--- A decimal numeral, or the mark of a base and a numeral in that base; and the number that its digits make.
+-- A decimal numeral, or the mark of a base and a numeral in that base; and the number of its digits.
 pub data IsNumberValue (text : List ℕ) (value : ℕ) : Type 0 where
   decimal : IsNumeral 10 text → value ≡ positional 10 (plain_digits text) → IsNumberValue text value
   based : (base : ℕ) (mark digits : List ℕ) → Contains bases (base, mark) → text ≡ mark ++ digits
-      → IsNumeral base digits → value ≡ positional base (plain_digits digits) → IsNumberValue text value
+      → IsNumeral base digits → value ≡ positional base (plain_digits digits)
+      → IsNumberValue text value
 
 -- the number of that size, with a minus or none
 abbrev pub with_sign : (negative : Bool) → ℕ → ℤ
@@ -46,7 +47,8 @@ with_names types = map (λ t. (t, name_of t)) types
 -- the types that stand before a `#`: all but TIME
 abbrev pub typed_elems : List Elem
 typed_elems =
-    elem.Sint ∷ elem.Int ∷ elem.Dint ∷ elem.Lint ∷ elem.Usint ∷ elem.Uint ∷ elem.Udint ∷ elem.Ulint ∷
+    elem.Sint ∷ elem.Int ∷ elem.Dint ∷ elem.Lint ∷
+    elem.Usint ∷ elem.Uint ∷ elem.Udint ∷ elem.Ulint ∷
     elem.Bool ∷ elem.Byte ∷ elem.Word ∷ elem.Dword ∷ elem.Lword ∷ []
 
 abbrev pub named_types : List (Elem × List ℕ)
@@ -68,12 +70,14 @@ pub record IsSignedValue (text : List ℕ) (negative : Bool) (size : ℕ) : Type
 abbrev pub truth_values : List (ℕ × List ℕ)
 truth_values = (1, codes "BOOL#TRUE") ∷ (0, codes "BOOL#FALSE") ∷ []
 
--- The name of a type, `#`, and a number with a sign or none; or `BOOL#TRUE` or `BOOL#FALSE`, as 1 and 0 of BOOL. The
--- number may lie outside the range of the type.
+-- The name of a type, `#`, and a number with a sign or none; or `BOOL#TRUE` or `BOOL#FALSE`, as 1
+-- and 0 of BOOL. The number may lie outside the range of the type.
 pub data IsTypedValue (text : List ℕ) (value : TypedValue) : Type 0 where
-  number : (word rest : List ℕ) → text ≡ word ++ 35 ∷ rest → Contains named_types (value.elem, map raised word)
+  number : (word rest : List ℕ) → text ≡ word ++ 35 ∷ rest
+      → Contains named_types (value.elem, map raised word)
       → IsSignedValue rest value.negative value.size → IsTypedValue text value
-  truth : Contains truth_values (value.size, map raised text) → value.elem ≡ elem.Bool → value.negative ≡ false
+  truth : Contains truth_values (value.size, map raised text) → value.elem ≡ elem.Bool
+      → value.negative ≡ false
       → IsTypedValue text value
 
 -- ---- times

@@ -75,7 +75,8 @@ fn is_numeral(base: u8, bytes: &[u8]) -> bool
     read_numeral(base, bytes).is_some()
 }
 
-/// The number that the bytes are, where they are digits in the base, single underscores between them, of one below 2^128.
+/// The number that the bytes are, where they are digits in the base, single underscores between them,
+/// of a number below 2^128.
 #[tactic(auto, unfolding(crate::specs::Front::goes_on))]
 fn read_numeral(base: u8, bytes: &[u8]) -> Option<u128>
     requires { base ≤ 16 }

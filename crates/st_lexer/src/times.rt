@@ -98,7 +98,8 @@ fn read_positive(parts: &[u8]) -> Option<i64>
     Some(size as i64)
 }
 
-/// The milliseconds of bytes that are parts as a whole: units are below `above` and fall, and the sum is `left` at most.
+/// The milliseconds of bytes that are parts as a whole: units are below `above` and fall, and the
+/// sum is `left` at most.
 #[tactic(auto, unfolding(crate::specs::steps::Readings::read_parts))]
 fn read_parts(above: u128, left: u128, bytes: &[u8]) -> Option<u128>
     ensures value { (n : ℕ) → length bytes.now < n → result ≡ readings.read_parts n above left bytes.now }

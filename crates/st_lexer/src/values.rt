@@ -16,8 +16,8 @@ use crate::words::{is_same, named_type};
 use iec_tables::elem::Elem;
 use iec_tables::letters::raise;
 
-/// The value of a typed number: the type that is named before the `#`, whether a minus is written, and the number
-/// behind it; TRUE is 1 and FALSE is 0. Whether it lies in the range of the type isn't judged here.
+/// The value of a typed number: the type that is named before the `#`, whether a minus is written,
+/// and the number behind it; TRUE is 1 and FALSE is 0. It may lie outside the range of the type.
 #[derive(Clone, Copy, Debug, PartialEq, Eq)]
 pub struct TypedValue {
     pub elem: Elem,
@@ -33,8 +33,8 @@ pub enum Area {
     Memory,
 }
 
-/// The width of the variable at an address: 1 bit (X, also where no letter is written), 8 (B), 16 (W), 32 (D) or
-/// 64 bits (L).
+/// The width of the variable at an address: 1 bit (X, also where no letter is written), 8 (B),
+/// 16 (W), 32 (D) or 64 bits (L).
 #[derive(Clone, Copy, Debug, PartialEq, Eq)]
 pub enum Width {
     Bit,
@@ -45,7 +45,8 @@ pub enum Width {
 }
 
 impl Width {
-    /// The bit string type of this width, which a variable at an address has where none is declared.
+    /// The bit string type of this width, which a variable at an address has where no type is
+    /// declared.
     pub fn elem(self) -> Elem
         ensures { result ≡ spec.elem_of self }
     {
@@ -59,9 +60,9 @@ impl Width {
     }
 }
 
-/// The parts of an address: its area, its width, and its numbers as they are written, which are decimal digits with
-/// single dots between the numbers. The text of an address with its letters raised tells it from others, so `%I1`,
-/// `%IX1` and `%IX01` are three.
+/// The parts of an address: its area, its width, and its numbers as they are written, which are
+/// decimal digits with single dots between the numbers, of any length. What tells an address from
+/// others is its text with the letters raised: `%I1`, `%IX1` and `%IX01` are three.
 #[derive(Clone, Copy, Debug, PartialEq, Eq)]
 pub struct AddressValue<'t> {
     pub area: Area,
@@ -102,8 +103,8 @@ pub fn address_value<'t>(text: &'t [u8]) -> Option<AddressValue<'t>>
     read_address(text)
 }
 
-/// The number of that size, with a minus or none; none where it is outside -2^127 + 1 to 2^127 - 1, which is outside
-/// each type.
+/// The number of that size, with a minus or none; none where the size is 2^127 or more, so that the
+/// number is outside each type.
 pub fn with_sign(negative: bool, size: u128) -> Option<i128>
     ensures value { IfSome result (λ number. number ≡ spec.with_sign negative size) }
     ensures some { size < 2 ^ 127 → IsSome result }
@@ -115,8 +116,8 @@ pub fn with_sign(negative: bool, size: u128) -> Option<i128>
     Some(if negative { -number } else { number })
 }
 
-/// Each number, typed number, time and address has exactly one value and no other text has one; each token of a cut
-/// has the text of its kind, so that each token of these four kinds has a value.
+/// Each number, typed number, time and address has exactly one value and no other text has one; each
+/// token of a cut has the text of its kind, so that each token of these four kinds has a value.
 pub fn value_laws()
     ensures texts { laws.TokensHaveTexts }
     ensures digits { laws.DigitsByPlaces }

@@ -1,5 +1,5 @@
--- The values of whole texts as functions: a step on the way from the code to the relations. Each function of the code
--- answers what one of these does.
+-- The values of whole texts as functions: a step on the way from the code to the relations. Each
+-- function of the code answers what one of these does.
 use Rattle.std.specs.Prelude.{ℕ, zero, suc, ◌+◌, ◌-◌, ◌^◌, ℤ, pos, neg_ℤ, Bool, true, false, ◌&&◌, if◌then◌else◌, nat_eq, nat_le, nat_lt, bytes_eq, List, [], ◌∷◌, length, map, take, drop, codes, Option, Some, None}
 use Rattle.iec_tables.specs.Letters.{raised}
 use Rattle.iec_tables.specs.declared.elem.Elem.{Elem}
@@ -36,7 +36,8 @@ of_type t negative (Some size) = Some (record { elem = t; negative = negative; s
 abbrev pub read_signed : Elem → List ℕ → Option TypedValue
 read_signed t bytes =
     if begins (nat_eq 45) bytes then of_type t true (read_number (drop 1 bytes))
-    else (if begins (nat_eq 43) bytes then of_type t false (read_number (drop 1 bytes)) else of_type t false (read_number bytes))
+    else (if begins (nat_eq 43) bytes then of_type t false (read_number (drop 1 bytes))
+    else of_type t false (read_number bytes))
 
 -- the truth values behind a `#`
 abbrev pub truth_words : List (ℕ × List ℕ)
@@ -59,7 +60,9 @@ typed_by None rest = None
 typed_by (Some t) rest = if hash_follows rest then behind_type t (drop 1 rest) else None
 
 unfoldable pub read_typed : List ℕ → Option TypedValue
-read_typed text = typed_by (found_in named_types (map raised (take (word_length text) text))) (drop (word_length text) text)
+read_typed text =
+    typed_by (found_in named_types (map raised (take (word_length text) text)))
+    (drop (word_length text) text)
 
 -- ---- times
 
@@ -68,15 +71,17 @@ abbrev pub added : ℕ → Option ℕ → Option ℕ
 added n None = None
 added n (Some m) = Some (n + m)
 
--- The milliseconds of parts: units are below `above`, and the sum is `left` at most. (The first number bounds how many
--- parts there are.)
+-- The milliseconds of parts: units are below `above`, and the sum is `left` at most. (The first
+-- number bounds how many parts there are.)
 unfoldable pub read_parts : ℕ → (above left : ℕ) → List ℕ → Option ℕ
 read_parts zero above left bytes = None
 read_parts (suc n) above left bytes = and_then (part_at bytes) (λ p.
     if nat_lt p.size above && nat_le p.value left then
     (if nat_eq (length (drop p.length bytes)) 0 then Some p.value
     else (if p.last then None
-    else added p.value (read_parts n p.size (left - p.value) (drop (link_length (drop p.length bytes)) (drop p.length bytes)))))
+    else added p.value
+    (read_parts n p.size (left - p.value)
+    (drop (link_length (drop p.length bytes)) (drop p.length bytes)))))
     else None)
 
 abbrev pub whole_parts : (left : ℕ) → List ℕ → Option ℕ
@@ -98,8 +103,8 @@ behind_word rest =
 
 unfoldable pub read_time : List ℕ → Option ℤ
 read_time text =
-    if is_word_of (codes "T" ∷ codes "TIME" ∷ []) (take (word_length text) text) then behind_word (drop (word_length text) text)
-    else None
+    if is_word_of (codes "T" ∷ codes "TIME" ∷ []) (take (word_length text) text)
+    then behind_word (drop (word_length text) text) else None
 
 -- ---- addresses
 

@@ -11,7 +11,9 @@ returns-then-is_empty-clause-value t c n lt =
     let p = c.in_ok-part.part in
     let bytes = c.args.bytes.now in
     let at : part_at bytes ≡ Some p = sym c.part_at.ensures.value ∙ c.in_ok-part.was in
-    let none : nat_eq (length (drop p.length bytes)) 0 ≡ true = ap (λ xs. nat_eq (length xs) 0) (sym (to_end bytes p.length)) ∙ sym c.is_empty.ensures ∙ c.if-is_empty.true in
+    let none : nat_eq (length (drop p.length bytes)) 0 ≡ true =
+    ap (λ xs. nat_eq (length xs) 0) (sym (to_end bytes p.length)) ∙ sym c.is_empty.ensures
+    ∙ c.if-is_empty.true in
     last_part n c.args.above c.args.left bytes p lt at (omega arith) (omega arith) none
 
 pub returns-in_err-more-clause-value : goal.returns-in_err-more-clause-value
@@ -19,13 +21,21 @@ returns-in_err-more-clause-value t c n lt =
     let p = c.in_ok-part.part in
     let bytes = c.args.bytes.now in
     let at : part_at bytes ≡ Some p = sym c.part_at.ensures.value ∙ c.in_ok-part.was in
-    let rest : take (length bytes - p.length) (drop p.length bytes) ≡ drop p.length bytes = to_end bytes p.length in
-    let goes : nat_eq (length (drop p.length bytes)) 0 ≡ false = ap (λ xs. nat_eq (length xs) 0) (sym rest) ∙ sym c.is_empty.ensures ∙ c.if-is_empty.false in
-    let link : c.link_length.result ≡ link_length (drop p.length bytes) = c.link_length.ensures.value ∙ ap link_length rest in
+    let rest : take (length bytes - p.length) (drop p.length bytes) ≡ drop p.length bytes =
+    to_end bytes p.length in
+    let goes : nat_eq (length (drop p.length bytes)) 0 ≡ false =
+    ap (λ xs. nat_eq (length xs) 0) (sym rest) ∙ sym c.is_empty.ensures ∙ c.if-is_empty.false in
+    let link : c.link_length.result ≡ link_length (drop p.length bytes) =
+    c.link_length.ensures.value ∙ ap link_length rest in
     let seen = take (length bytes - p.length) (drop p.length bytes) in
-    let further : take (length seen - c.link_length.result) (drop c.link_length.result seen) ≡ drop (link_length (drop p.length bytes)) (drop p.length bytes) =
-    to_end seen c.link_length.result ∙ ap (λ xs. drop c.link_length.result xs) rest ∙ ap (λ k. drop k (drop p.length bytes)) link in
-    let told = parts_behind n c.args.above c.args.left bytes p c.read_parts.result lt at (omega arith) (omega arith) goes c.if-part.false c.in_ok-part.ensures.some c.in_ok-part.ensures.within _ further c.read_parts.ensures.value in
+    let further : take (length seen - c.link_length.result) (drop c.link_length.result seen)
+    ≡ drop (link_length (drop p.length bytes)) (drop p.length bytes) =
+    to_end seen c.link_length.result ∙ ap (λ xs. drop c.link_length.result xs) rest
+    ∙ ap (λ k. drop k (drop p.length bytes)) link in
+    let told =
+    parts_behind n c.args.above c.args.left bytes p c.read_parts.result lt at (omega arith)
+    (omega arith) goes c.if-part.false c.in_ok-part.ensures.some c.in_ok-part.ensures.within _
+    further c.read_parts.ensures.value in
     c.from_residual-in_err-more.ensures ∙ sym (ap (added p.value) c.in_err-more.was) ∙ told
 
 pub returns-clause-value : goal.returns-clause-value
@@ -33,11 +43,19 @@ returns-clause-value t c n lt =
     let p = c.in_ok-part.part in
     let bytes = c.args.bytes.now in
     let at : part_at bytes ≡ Some p = sym c.part_at.ensures.value ∙ c.in_ok-part.was in
-    let rest : take (length bytes - p.length) (drop p.length bytes) ≡ drop p.length bytes = to_end bytes p.length in
-    let goes : nat_eq (length (drop p.length bytes)) 0 ≡ false = ap (λ xs. nat_eq (length xs) 0) (sym rest) ∙ sym c.is_empty.ensures ∙ c.if-is_empty.false in
-    let link : c.link_length.result ≡ link_length (drop p.length bytes) = c.link_length.ensures.value ∙ ap link_length rest in
+    let rest : take (length bytes - p.length) (drop p.length bytes) ≡ drop p.length bytes =
+    to_end bytes p.length in
+    let goes : nat_eq (length (drop p.length bytes)) 0 ≡ false =
+    ap (λ xs. nat_eq (length xs) 0) (sym rest) ∙ sym c.is_empty.ensures ∙ c.if-is_empty.false in
+    let link : c.link_length.result ≡ link_length (drop p.length bytes) =
+    c.link_length.ensures.value ∙ ap link_length rest in
     let seen = take (length bytes - p.length) (drop p.length bytes) in
-    let further : take (length seen - c.link_length.result) (drop c.link_length.result seen) ≡ drop (link_length (drop p.length bytes)) (drop p.length bytes) =
-    to_end seen c.link_length.result ∙ ap (λ xs. drop c.link_length.result xs) rest ∙ ap (λ k. drop k (drop p.length bytes)) link in
-    let told = parts_behind n c.args.above c.args.left bytes p c.read_parts.result lt at (omega arith) (omega arith) goes c.if-part.false c.in_ok-part.ensures.some c.in_ok-part.ensures.within _ further c.read_parts.ensures.value in
+    let further : take (length seen - c.link_length.result) (drop c.link_length.result seen)
+    ≡ drop (link_length (drop p.length bytes)) (drop p.length bytes) =
+    to_end seen c.link_length.result ∙ ap (λ xs. drop c.link_length.result xs) rest
+    ∙ ap (λ k. drop k (drop p.length bytes)) link in
+    let told =
+    parts_behind n c.args.above c.args.left bytes p c.read_parts.result lt at (omega arith)
+    (omega arith) goes c.if-part.false c.in_ok-part.ensures.some c.in_ok-part.ensures.within _
+    further c.read_parts.ensures.value in
     sym (ap (added p.value) c.in_ok-more.was) ∙ told

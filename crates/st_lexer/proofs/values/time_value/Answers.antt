@@ -7,7 +7,8 @@ use Rattle.st_lexer.proofs.values.time_value.Goals as goal
 pub returns-clause-value : goal.returns-clause-value
 returns-clause-value c =
     let text = c.args.text.now in
-    if_some (IsTimeValue text) c.read_time.result (read_time text) c.read_time.ensures (time_some text)
+    if_some (IsTimeValue text) c.read_time.result (read_time text) c.read_time.ensures
+    (time_some text)
 
 pub returns-clause-some : goal.returns-clause-some
 returns-clause-some c is =
