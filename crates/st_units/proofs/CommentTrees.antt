@@ -9,9 +9,8 @@ use Rattle.token_grammar.specs.declared.token.TokenKind.TheVariants.{Name}
 use Rattle.st_lexer.specs.Cut.{IsCut, CutTo}
 use Rattle.st_tree.specs.declared.file.Comment.{Comment}
 use Rattle.token_grammar.specs.Texts.{lexeme}
-use Rattle.tree_copies.specs.Numbers.{before}
-use Rattle.st_units.specs.SourceTrees.{is_comment, comments_among, comments_from, comment_at, starts_of, tree_of, OneTree}
-use Rattle.st_units.proofs.FileAnswers.{one_file}
+use Rattle.tree_numbers.specs.NumberedAt.{before}
+use Rattle.st_units.specs.SourceTrees.{is_comment, comments_among, comments_from, comment_at, starts_of}
 
 -- ---- the order of tokens
 
@@ -54,8 +53,3 @@ comments_same xs ys h index text [] = refl
 comments_same xs ys h index text (t ∷ ts) =
     let first : comment_at ys index text t ≡ comment_at xs index text t = ap (λ (n : ℕ). record { node = record { number = record { 0 = index + n }; start = t.start; end = t.end }; text = (lexeme text t).bytes }) (before_same xs ys h t.start) in
     ap (λ (c : Comment). c ∷ comments_from ys (suc index) text ts) first ∙ ap (λ (cs : List Comment). comment_at xs index text t ∷ cs) (comments_same xs ys h (suc index) text ts)
-
--- ---- laws
-
-pub one_tree : OneTree
-one_tree text tokens tree other a b = a.tree_is ∙ ap (tree_of text (comments_among tokens)) (one_file text tokens a.parts b.parts a.spelled b.spelled) ∙ sym b.tree_is

@@ -1,16 +1,16 @@
 // The tree of a file: its parts with their nodes numbered, its comments, and the places of its line feeds.
 
-ghost use Rattle.std.specs.Prelude.{◌≡◌, IfOk, map};
-ghost use Rattle.std.specs.List.{filter};
+ghost use Rattle.std.specs.Prelude.{◌≡◌, IfOk, OnOk, map};
 ghost use Rattle.std.specs.List.Sorted.{IsNonDecreasing, IsPermutation};
 ghost use Rattle.token_grammar.specs.Kinds.{same_kind};
 ghost use Rattle.token_grammar.specs.declared.token.TokenKind.TheVariants.{Comment as CommentKind};
+ghost use Rattle.tree_numbers.specs.Numbers.{numbered_parts};
 ghost use Rattle.st_units.specs.SourceTrees as spec;
 
-use crate::reading::{ParseFault, count_steps, parts_of};
-use tree_items::Items;
+use crate::fault::ParseFault;
+use crate::reading::{count_steps, parts_of};
 use st_expr::node_at;
-use st_lexer::tokens;
+use st_lexer::{cut_laws, tokens};
 use st_tree::{Comment, FilePart, SourceTree, feeds_of};
 use station_ports::outside::NoMemory;
 use station_ports::steps::Steps;
@@ -18,10 +18,11 @@ use station_ports::texts::Name;
 use std::alloc::{AllocError, Global};
 use std::sync::ledger::Ledger;
 use token_grammar::{Cursor, Token, TokenKind, drop_comments};
-use tree_copies::{Counting, Starts, number_parts, numbered_node, source_tree};
+use tree_items::Items;
+use tree_numbers::{Counting, Starts, number_parts, numbered_node, source_tree};
 
-/// The tree of a text, its nodes and comments numbered from 0 by their first bytes, an outer node before the nodes within it. Counts one parse step a
-/// token, comments and pragmas among them.
+/// The tree of a text, its nodes and comments numbered from 0 in the order of the text. Counts one parse step a token, comments and
+/// pragmas among them.
 pub fn parse_file<L: Ledger>(
     alloc: Global,
     text: &[u8],
@@ -37,8 +38,8 @@ pub fn parse_file<L: Ledger>(
     count_steps(&tokens.list, steps);
     let comments = comments_among(alloc, &tokens.list)?;
     drop_comments(&mut tokens.list);
-    let parts = parts_of(alloc, &tokens)?;
-    Ok(tree_of(alloc, tokens.text, &parts, &comments)?)
+    let parts = parts_of(alloc, tokens)?;
+    Ok(tree_of(alloc, text, parts, &comments)?)
 }
 
 fn is_comment(kind: TokenKind) -> bool
@@ -71,14 +72,30 @@ fn starts_of(alloc: Global, tokens: &[Token]) -> Result<Vec<usize>, AllocError>
     Ok(starts)
 }
 
-/// The places in their order.
-fn sorted(alloc: Global, places: &Items<usize>) -> Result<Vec<usize>, AllocError>
-    ensures rising { IfOk result (λ sorted. IsNonDecreasing sorted.items) }
-    ensures same { IfOk result (λ sorted. IsPermutation places.now sorted.items) }
+/// Numbers the nodes of the parts, in a file whose comments start at these places, and gives the nodes' own places in ascending order.
+fn number_all(
+    alloc: Global,
+    parts: &mut Items<FilePart>,
+    comments: Starts<'_>,
+) -> Result<Items<usize>, NoMemory>
+    ensures tree { OnOk result (parts.new ≡ numbered_parts comments.entry parts.old) }
+    ensures rising { IfOk result (λ places. IsNonDecreasing places) }
+    ensures same { IfOk result (λ places. IsPermutation (spec.places_of parts.old) places) }
 {
-    let mut sorted = places.as_slice().to_vec(alloc)?;
-    sorted.sort_unstable();
-    Ok(sorted)
+    let mut counting = Counting::new(alloc, comments);
+    number_parts(parts, &mut counting)?;
+    let Counting { starts, .. } = counting;
+    Ok(sorted(starts))
+}
+
+/// The places in their order.
+fn sorted(places: Items<usize>) -> Items<usize>
+    ensures rising { IsNonDecreasing result }
+    ensures same { IsPermutation places result }
+{
+    let mut places = places;
+    places.as_mut_slice().sort_unstable();
+    places
 }
 
 /// A comment that so many comments come before, in a file whose nodes start at these places.
@@ -124,21 +141,25 @@ fn comments_of(
 fn tree_of(
     alloc: Global,
     text: &[u8],
-    parts: &Items<FilePart>,
+    parts: Items<FilePart>,
     comments: &[Token],
 ) -> Result<SourceTree, NoMemory>
     requires { IsNonDecreasing (spec.starts_of comments.now) }
-    ensures { IfOk result (λ tree. tree ≡ spec.tree_of text.now comments.now parts.now) }
+    ensures { IfOk result (λ tree. tree ≡ spec.tree_of text.now comments.now parts) }
 {
+    let mut parts = parts;
     let places = starts_of(alloc, comments)?;
-    let mut counting = Counting::new(alloc, Starts::of(&places));
-    let numbered = number_parts(alloc, parts, &mut counting)?;
-    let nodes = sorted(alloc, &counting.starts)?;
-    let comments = comments_of(alloc, text, comments, &Starts::of(&nodes))?;
-    source_tree(alloc, numbered, comments, feeds_of(alloc, text)?)
+    let nodes = number_all(alloc, &mut parts, Starts::of(&places))?;
+    let comments = comments_of(alloc, text, comments, &Starts::of(nodes.as_slice()))?;
+    source_tree(alloc, parts, comments, feeds_of(alloc, text)?)
 }
 
-/// What holds of the trees of files: the tokens of a text spell one at most.
-pub fn source_tree_laws()
-    ensures one { spec.OneTree }
-{}
+/// What holds of texts: each has exactly one tree, or exactly one fault.
+pub fn text_laws()
+    ensures some { spec.SomeTreeOrFault }
+    ensures one_tree { spec.OneTree }
+    ensures one_fault { spec.OneTextFault }
+    ensures not_both { spec.NoTreeAndFault }
+{
+    cut_laws();
+}
