@@ -8,8 +8,8 @@ ghost use Rattle.station_cli.specs.Reports.{IsCounted, IsOfAnalysis};
 ghost use Rattle.station_cli.specs.Report.{IsReport, IsRefusal, IsReportOf, IsUnder, subject};
 ghost use Rattle.st_tree.specs.declared.plan.PlanRefusal.TheVariants as Reason;
 ghost use Rattle.st_units.specs.SourceTrees.{IsTreeOf, IsFaultOf};
-ghost use Rattle.station_cli.specs.Parsing.{IsAnalysable, IsParsed};
-ghost use Rattle.station_cli.specs.Lines.{AreEntriesOf, IsAlarmOf, IsEntryOf, IsInBody, lines_of, range_line};
+ghost use Rattle.station_cli.specs.steps.Parsing.{IsAnalysable, IsParsed};
+ghost use Rattle.station_cli.specs.steps.Lines.{AreEntriesOf, IsAlarmOf, IsEntryOf, IsInBody, lines_of, range_line};
 
 use cycle_analysis::{Solution, solve};
 use finding_spans::{

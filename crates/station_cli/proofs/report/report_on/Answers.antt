@@ -5,7 +5,7 @@ use Rattle.first_form.specs.declared.tree.SourceTree.{SourceTree}
 use Rattle.finding_spans.specs.declared.report.Report.{Report}
 use Rattle.station_cli.specs.declared.report.Parsed.TheVariants.{Tree}
 use Rattle.station_cli.specs.Report.{IsReport, IsReportOf}
-use Rattle.station_cli.specs.Parsing.{IsAnalysable, IsParsed}
+use Rattle.station_cli.specs.steps.Parsing.{IsAnalysable, IsParsed}
 use Rattle.station_cli.proofs.report.report_on.Goals as goal
 
 -- the report on a tree of the text is the report on the text
