@@ -19,8 +19,8 @@ returns-in-Ok c =
     (c.as_slice.ensures.value ∙ kept) c.in-Ok.ensures in
     answered (words_of text all) (Ok c.in-Ok.parts) (view c.file.new.cursor) e
 
-pub returns-in-Err : goal.returns-in-Err
-returns-in-Err c =
+pub returns : goal.returns
+returns c =
     let text = c.args.tokens.text.now in
     λ all kept.
     let rest = (view c.file.new.cursor).rest in
