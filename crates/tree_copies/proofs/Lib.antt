@@ -1,13 +1,1 @@
-pub mod Turns
-pub mod Counts
-pub mod Keeping
-pub mod KeepsExpr
-pub mod Copying
-pub mod Counted
-pub mod Numbering
-pub mod Specs
-pub mod Stmts
-pub mod KeepsStmt
-pub mod KeepsDecl
-pub mod KeepsFile
-pub mod Sorting
+pub mod ReversedTwice

@@ -1,9 +1,3 @@
-pub mod Turns
-pub mod Rebuilt
-pub mod Numbers
-pub mod Nodes
-pub mod Laws
-pub mod Declarations
-pub mod Statements
-pub mod Files
-pub mod Parts
+-- How a code is turned round: steps.
+pub mod CodeCopies
+pub mod steps
