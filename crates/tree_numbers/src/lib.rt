@@ -1,0 +1,2 @@
+//! Trees with their nodes numbered in the order of the text.
+#![tactic(auto)]
