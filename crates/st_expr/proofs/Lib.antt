@@ -5,3 +5,5 @@ pub mod Arguments
 pub mod Rules
 pub mod Exactness
 pub mod Numbers
+pub mod Lists
+pub mod NameLists

@@ -40,6 +40,13 @@ identifier = node make_identifier (word k.Name)
 abbrev pub address : Rule Address
 address = node make_address (word k.Address)
 
+-- names = name { "," name }
+abbrev pub more_names : List Identifier → Rule (List Identifier)
+more_names found = token k.Comma >>= λ _. identifier >>= λ i. give (found ++ i ∷ [])
+
+abbrev pub names : Rule (List Identifier)
+names = identifier >>= λ i. many more_names (i ∷ [])
+
 -- ---- operators, by rank
 
 abbrev pub operator_as : TokenKind → BinaryOperator → Rule BinaryOperator

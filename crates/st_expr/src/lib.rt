@@ -8,5 +8,5 @@ mod rank;
 mod whole;
 
 pub use expressions::expression_at;
-pub use names::{address, identifier, node_at, word};
+pub use names::{address, identifier, name_list, node_at, word};
 pub use whole::{NEST, expression, located, parts, path};

@@ -30,6 +30,12 @@ identifier = node make_identifier (word k.Name)
 unfoldable pub address : Parser Address
 address = node make_address (word k.Address)
 
+unfoldable pub more_names : List Identifier → Parser (List Identifier)
+more_names found = take k.Comma >>= λ _. identifier >>= λ i. pure (found ++ i ∷ [])
+
+unfoldable pub names : Parser (List Identifier)
+names = identifier >>= λ i. repeated (sees_in k.Comma) more_names (i ∷ [])
+
 unfoldable pub operator_as : TokenKind → BinaryOperator → Parser BinaryOperator
 operator_as kind o = operator kind >>= λ _. pure o
 

@@ -1,0 +1,29 @@
+// Actions.
+
+ghost use Rattle.std.specs.Prelude.{◌≡◌};
+ghost use Rattle.token_grammar.specs.Input.{Reads, view};
+ghost use Rattle.sfc_text.specs.steps.Parse as spec;
+
+use st_expr::{identifier, node_at};
+use st_statements::statement_list;
+use st_tree::Action;
+use std::alloc::Global;
+use token_grammar::{Cursor, ParseError, TokenKind};
+
+/// `ACTION name ":" statements END_ACTION`
+#[tactic(auto, unfolding(crate::specs::steps::Parse::action))]
+pub(crate) fn action(alloc: Global, cursor: &mut Cursor<'_>) -> Result<Action, ParseError>
+    ensures { Reads (spec.action (view cursor.old)) result (view cursor.new) }
+{
+    let start = cursor.start();
+    cursor.take(TokenKind::Action)?;
+    let name = identifier(alloc, cursor)?;
+    cursor.take(TokenKind::Colon)?;
+    let body = statement_list(alloc, cursor)?;
+    cursor.take(TokenKind::EndAction)?;
+    Ok(Action {
+        node: node_at(start, cursor.last),
+        name,
+        body,
+    })
+}
