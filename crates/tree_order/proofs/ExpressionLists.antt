@@ -1,11 +1,10 @@
 -- What is gathered from the words of expressions and paths.
-use Rattle.std.proofs.Common.{◌≡◌, ℕ, zero, suc, ◌+◌, Bool, true, false, List, [], ◌∷◌, ◌++◌, Option, Some, None, append_assoc, refl, sym, ap, subst, ◌∙◌, inl, inr, ◌⊎◌}
+use Rattle.std.proofs.Common.{◌≡◌, ℕ, zero, suc, ◌+◌, Bool, true, false, List, [], ◌∷◌, ◌++◌, Option, Some, None, append_assoc, refl, sym, ap, subst, ◌∙◌}
 use Rattle.std.specs.Prelude.{flat_map}
 use Rattle.std.proofs.lemmas.List.{append-nil}
 use Rattle.token_grammar.specs.declared.token.TokenKind.{TokenKind}
 use Rattle.token_grammar.specs.declared.token.TokenKind.TheVariants as k
-use Rattle.token_grammar.specs.Texts.{Lexeme}
-use Rattle.token_grammar.specs.Grammar.{Word, Rule, ◌>>=◌, ◌or◌, give, token, deeper, node, times, many, start_of, end_of}
+use Rattle.token_grammar.specs.Grammar.{Word, Rule, ◌>>=◌, give, times, start_of, end_of}
 use Rattle.st_tree.specs.Places.{node_at}
 use Rattle.st_tree.specs.declared.node.Node.{Node}
 use Rattle.st_tree.specs.declared.expression.Identifier.{Identifier}
@@ -23,9 +22,9 @@ use Rattle.st_tree.specs.declared.expression.Part.{Part}
 use Rattle.st_tree.specs.declared.expression.Part.TheVariants as part
 use Rattle.st_expr.specs.declared.rank.Rank.{Rank}
 use Rattle.st_expr.specs.declared.rank.Rank.TheVariants as rank
-use Rattle.st_expr.specs.Trees.{Text, rank_of, Ending, ended, from_start, make_identifier, make_address, make_path, make_index, make_number, make_typed, make_time, make_truth, make_argument, make_inverted, make_parenthesized, make_binary, literal_of}
+use Rattle.st_expr.specs.Trees.{Text, rank_of, Ending, ended, from_start, make_identifier, make_address, make_path, make_index, make_number, make_typed, make_time, make_truth, make_argument, make_inverted, make_parenthesized}
 use Rattle.st_expr.specs.Grammar as g
-use Rattle.tree_order.proofs.Gathering.{Gathering, Filled, Lists, Gathers, filled_token, filled_first, filled_or, filled_scoped, filled_node, gathers_give, gathers_then, gathers_behind, gathers_or, lists_or, lists_scoped, lists_deeper, lists, lists_word, lists_behind, lists_enclosed, lists_node, gathers_node, gathers_another, gathers_more, lists_many, lists_some}
+use Rattle.tree_order.proofs.Gathering.{Gathering, Filled, Lists, filled_token, filled_first, filled_or, filled_scoped, filled_node, gathers_give, gathers_then, gathers_behind, gathers_or, lists_or, lists_scoped, lists_deeper, lists, lists_word, lists_behind, lists_enclosed, lists_node, gathers_node, gathers_another, gathers_more, lists_many, lists_some}
 
 -- ---- names and addresses
 
@@ -133,17 +132,17 @@ filled_expression = record { some = λ d w x e (n, l). (filled_nested (258 + n))
 
 -- ---- words one behind the other
 
-start_of-append : (u v : Word) → (u ≡ [] → ⊥) → start_of (u ++ v) ≡ start_of u
+pub start_of-append : (u v : Word) → (u ≡ [] → ⊥) → start_of (u ++ v) ≡ start_of u
 start_of-append [] v some = absurd (some refl)
 start_of-append (p ∷ u) v some = refl
 
-end_of-append : (u v : Word) → (v ≡ [] → ⊥) → end_of (u ++ v) ≡ end_of v
+pub end_of-append : (u v : Word) → (v ≡ [] → ⊥) → end_of (u ++ v) ≡ end_of v
 end_of-append [] v some = refl
 end_of-append (p ∷ []) [] some = absurd (some refl)
 end_of-append (p ∷ []) (q ∷ v) some = refl
 end_of-append (p ∷ r ∷ u) v some = end_of-append (r ∷ u) v some
 
-some-append : (u v : Word) → (u ≡ [] → ⊥) → u ++ v ≡ [] → ⊥
+pub some-append : (u v : Word) → (u ≡ [] → ⊥) → u ++ v ≡ [] → ⊥
 some-append [] v some e = some refl
 some-append (p ∷ u) v some e = absurd cc
 

@@ -1,6 +1,6 @@
 -- What the rules of a grammar gather: for each value that a word spells a list of what stands in it, and what holds of the word and that list.
 -- The lists are of any kind, and so is what holds of them.
-use Rattle.std.proofs.Common.{◌≡◌, ℕ, zero, suc, Bool, true, List, [], ◌∷◌, ◌++◌, Option, Some, None, ◌+◌, append_assoc, refl, sym, ap, subst, ◌∙◌, inl, inr, ◌⊎◌}
+use Rattle.std.proofs.Common.{◌≡◌, ℕ, zero, suc, Bool, true, List, [], ◌∷◌, ◌++◌, ◌+◌, append_assoc, refl, sym, ap, subst, ◌∙◌, inl, inr}
 use Rattle.std.specs.Prelude.{flat_map}
 use Rattle.std.proofs.lemmas.List.{append-nil}
 use Rattle.std.proofs.lemmas.Grind.{flat_map-append}
@@ -78,6 +78,13 @@ module _ {M : Type 0} {P : Word → List M → Type 0} (G : Gathering P) where
     gathered = λ d w y e (u, v, x, m, is, l, r).
         let g = (next x).gathered m v y e r in
         record { list = list x ++ g.list; related = g.related; holds = subst (λ z. P z (list x ++ g.list)) (sym is) (G.both u v (list x) g.list (h.holds d u x m l) g.holds) };
+  }
+
+  -- of three rules the last two may as well stand together
+  pub gathers_apart : {A B C : Type 0} {R : C → List M → Type 0} {L : Rule A} {N : A → Rule B} {K : B → Rule C} → Gathers P R ((L >>= N) >>= K) → Gathers P R (L >>= λ x. N x >>= K)
+  gathers_apart h = record {
+    gathered = λ d w z e (u, v, x, m, is, l, (a, b, y, n, apart, r, s)).
+        h.gathered d w z e (u ++ a, b, y, n, is ∙ ap (λ t. u ++ t) apart ∙ sym (append_assoc u a b), (u, a, x, m, refl, l, r), s);
   }
 
   -- a token of which nothing is gathered, and what follows it
