@@ -1,3 +1,5 @@
 mod Gathering
 mod ExpressionLists
 mod StatementLists
+mod NodesOfWords
+mod NodeInstances
