@@ -49,12 +49,18 @@ filled_word kind = filled_first (filled_token 0 0)
 pub filled_identifier : Filled g.identifier
 filled_identifier = filled_node make_identifier (filled_word k.Name)
 
+pub filled_names : Filled g.names
+filled_names = filled_first filled_identifier
+
 pub filled_address : Filled g.address
 filled_address = filled_node make_address (filled_word k.Address)
 
 module _ {M : Type 0} {P : Word → List M → Type 0} (G : Gathering P) where
   pub identifier : Lists P (of_identifier G) g.identifier
   identifier = lists_node G (G.spelled k.Name) (of_identifier G) make_identifier (filled_word k.Name) (λ start end x. refl) (lists_word G k.Name)
+
+  pub names : Lists P (flat_map (of_identifier G)) g.names
+  names = lists_some G identifier (gathers_more G 0 0 identifier)
 
   pub address : Lists P (of_address G) g.address
   address = lists_node G (G.spelled k.Address) (of_address G) make_address (filled_word k.Address) (λ start end x. refl) (lists_word G k.Address)

@@ -1,5 +1,9 @@
 mod Gathering
 mod ExpressionLists
 mod StatementLists
+mod DeclarationLists
+mod ChartLists
+mod UnitLists
 mod NodesOfWords
 mod NodeInstances
+mod FileInstances
