@@ -67,6 +67,16 @@ impl<T> Items<T> {
         &mut self.items[at]
     }
 
+    ghost use Rattle.tree_items.specs.Lends.{LendsItems};
+
+    /// The items, to be changed in place.
+    pub fn as_mut_slice(&mut self) -> &mut [T]
+        ensures* lends { sem 𝓛 (LendsItems T.row self.entry result) }
+        ensures value { result.now ≡ self.old }
+    {
+        self.items.as_mut_slice()
+    }
+
     /// Moves the items of `more` to the end.
     pub fn append(&mut self, more: Items<T>) -> Result<(), AllocError>
     where

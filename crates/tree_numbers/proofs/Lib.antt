@@ -1,1 +1,13 @@
 pub mod NodeEquations
+pub mod Counts
+pub mod Counted
+pub mod Turns
+pub mod CountedEquations
+pub mod BareEquations
+pub mod Numbering
+pub mod ExpressionLaws
+pub mod StatementLaws
+pub mod DeclarationLaws
+pub mod ChartLaws
+pub mod FileLaws
+pub mod Sorting
