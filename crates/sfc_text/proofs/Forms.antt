@@ -3,6 +3,7 @@ use Rattle.std.proofs.Common.{◌≡◌, Bool, List, [], ◌∷◌, ◌++◌, Op
 use Rattle.token_grammar.specs.declared.token.TokenKind.{TokenKind}
 use Rattle.token_grammar.specs.declared.token.TokenKind.TheVariants as k
 use Rattle.token_grammar.specs.Texts.{Lexeme}
+use Rattle.token_grammar.specs.Input.{sees_in}
 use Rattle.token_grammar.proofs.Laws.{Exact}
 use Rattle.token_grammar.proofs.Starts.{sees_any, IsLevel, bind_starts, bind_give, starts_bind}
 use Rattle.token_grammar.proofs.Forms.{Form, level_carries, form_take, form_then, form_as, form_or, form_node, form_scoped, exact_optional, level_bind, level_give, level_or, level_node, level_scoped, level_then}
@@ -158,7 +159,8 @@ level_chart_part = level_or (level_bind (level_step k.Step) (λ s. level_give (p
 
 sees_parts : (ts : List Lexeme) → p.sees_part ts ≡ sees_any part_kinds ts
 unfolding p.sees_part
-sees_parts ts = or_is refl (or_is refl (one_kind k.Action ts))
+sees_parts ts =
+    or_is (sees_in k.Step ts) _ _ (or_is (sees_in k.Transition ts) _ _ (one_kind k.Action ts))
 
 exact_chart_parts : Exact Here p.chart_parts g.chart_parts (sees_any part_kinds)
 unfolding p.chart_parts p.more_parts

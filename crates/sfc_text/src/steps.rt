@@ -67,10 +67,7 @@ fn more_associations(
 
 /// `{ name "(" [ name ] ")" ";" }`
 #[tactic(auto, unfolding(crate::specs::steps::Parse::associations))]
-fn associations(
-    alloc: Global,
-    cursor: &mut Cursor<'_>,
-) -> Result<Items<Association>, ParseError>
+fn associations(alloc: Global, cursor: &mut Cursor<'_>) -> Result<Items<Association>, ParseError>
     ensures { Reads (spec.associations (view cursor.old)) result (view cursor.new) }
 {
     let mut found = Items::new(alloc);

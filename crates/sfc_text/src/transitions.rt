@@ -61,10 +61,7 @@ fn condition(alloc: Global, cursor: &mut Cursor<'_>) -> Result<Boxed<Expr>, Pars
 
 /// `TRANSITION [ name ] FROM from TO from ":=" expr ";" END_TRANSITION`
 #[tactic(auto, unfolding(crate::specs::steps::Parse::transition))]
-pub(crate) fn transition(
-    alloc: Global,
-    cursor: &mut Cursor<'_>,
-) -> Result<Transition, ParseError>
+pub(crate) fn transition(alloc: Global, cursor: &mut Cursor<'_>) -> Result<Transition, ParseError>
     ensures { Reads (spec.transition (view cursor.old)) result (view cursor.new) }
 {
     let start = cursor.start();

@@ -8,7 +8,8 @@ use Rattle.token_grammar.specs.Input.{Parser, and_then, repeated, node as node_o
 use Rattle.token_grammar.specs.Grammar.{Rule, ◌>>=◌, node, many}
 use Rattle.token_grammar.proofs.Laws.{Exact, Some_}
 use Rattle.token_grammar.proofs.OneToken.{a_token, same_kind_refl}
-use Rattle.token_grammar.proofs.Steps.{exact_same, told_same}
+use Rattle.token_grammar.proofs.Steps.{exact_same}
+use Rattle.token_grammar.proofs.Same.{exact_as, exact_some_of, starts_some_of, level_some_of}
 use Rattle.token_grammar.proofs.Starts.{sees_any, disjoint, Starts, IsLevel, Opens, starts_bind, starts_or, starts_scoped, starts_node, starts_token}
 use Rattle.token_grammar.proofs.Forms.{Form, Body, Inner, body_carries, form_then, form_as, form_node, form_scoped, form_list, level_scoped}
 use Rattle.st_tree.specs.declared.expression.Expr.{Expr}
@@ -22,6 +23,7 @@ use Rattle.st_expr.proofs.Operators.{kinds_of, form_operators, sees_rank}
 use Rattle.st_expr.proofs.Arguments.{HasNames}
 use Rattle.st_expr.proofs.Leaves.{form_identifier, form_address, form_number, form_typed, form_time, form_truth}
 use Rattle.st_expr.proofs.Rules.{operand_ends, form_unary}
+use Rattle.st_expr.proofs.Nesting.{from_depth}
 
 -- with what an expression begins
 abbrev pub firsts : List TokenKind
@@ -134,30 +136,22 @@ exact_nested (suc n) (suc m) lt =
 -- ---- the rule over all depths
 
 pub exact_expression : Exact (Inner 257) (p.nested 257) g.expression (sees_any goes_on)
-exact_expression =
-    let h = exact_nested 257 258 (omega arith) in
-    record {
-      told = λ i v. told_same (g.nested 258) g.expression i (p.nested 257 i) (h.told i v) (λ d w x e l. (0, l));
-      complete = λ d w x e v (n, l) last rest ends_here. (exact_nested 257 (258 + n) (omega arith)).complete d w x e v l last rest ends_here;
-      local = h.local;
-      cut = h.cut;
-      some = λ d. let s = h.some d in record { word = s.word; value = s.value; depth = s.depth; spelled = (0, s.spelled) };
-      rises = λ d w x e (n, l). (exact_nested 257 (258 + n) (omega arith)).rises d w x e l;
-    }
+exact_expression = exact_as (from_depth 258) (exact_some_of (λ n. exact_nested 257 (258 + n) (omega arith)))
 
 pub level_expression : IsLevel g.expression
-level_expression d w x e (n, l) = nested_level (258 + n) d w x e l
+level_expression = level_some_of nested_level
 
 pub names_expression : HasNames g.expression
-names_expression d t is = let (x, e, l) = nested_names 257 d t is in (x, e, (0, l))
+names_expression d t is = let (x, e, l) = nested_names 0 d t is in (x, e, (1, l))
 
 opens_nested : Opens (g.nested 258) firsts
 unfolding g.nested
-opens_nested = (form_whole 256 (p.nested 256) (g.nested 257) (exact_nested 256 257 (omega arith)) (nested_starts 257) (nested_level 257) (nested_names 256)).opens
+opens_nested = (form_whole 256 (p.nested 256) (g.nested 257) (exact_nested 256 257 (omega arith))
+    (nested_starts 257) (nested_level 257) (nested_names 256)).opens
 
 pub form_expression : Form (Inner 257) (p.nested 257) g.expression firsts goes_on
 form_expression = record {
   exact = exact_expression;
-  starts = record { sees = λ d w x e (n, l) rest. (nested_starts (258 + n)).sees d w x e l rest };
-  opens = record { word = λ d t r e. let (at, w, x, m, l) = opens_nested.word d t r e in (at, w, x, m, (0, l)) };
+  starts = starts_some_of nested_starts;
+  opens = record { word = λ d t r e. let (at, w, x, m, l) = opens_nested.word d t r e in (at, w, x, m, (258, l)) };
 }

@@ -95,7 +95,7 @@ number_nested (suc m) d w x e (mid, l, same) rest none = lacks_level (g.nested m
 
 -- a bracket behind a number with which an expression begins is behind the expression
 pub number_expression : LacksTwo g.expression k.Number k.OpenParenthesis
-number_expression d w x e (n, l) rest none = number_nested (258 + n) d w x e l rest none
+number_expression d w x e (n, l) rest none = number_nested n d w x e l rest none
 
 -- ---- a name, and then ":="
 
@@ -191,7 +191,7 @@ three_nested zero d w x e l rest = absurd l
 three_nested (suc m) d w x e (mid, l, same) rest = three_level (g.nested m) (name_nested m) 7 d w x mid l rest
 
 pub three_expression : LacksThree g.expression
-three_expression d w x e (n, l) rest = three_nested (258 + n) d w x e l rest
+three_expression d w x e (n, l) rest = three_nested n d w x e l rest
 
 -- ---- words of expressions
 
@@ -206,7 +206,7 @@ unfolding g.nested
 number_within m d t is = let s = number_level (g.nested m) 7 d t is in (s.0, d, (s.1, s.2, refl))
 
 pub number_alone : (d : ℕ) (t : Lexeme) → is_kind k.Number t ≡ true → (x : Expr) × (e : ℕ) × g.expression d ((t, d + 0) ∷ []) x e
-number_alone d t is = let s = number_within 257 d t is in (s.0, s.1, (0, s.2))
+number_alone d t is = let s = number_within 0 d t is in (s.0, s.1, (1, s.2))
 
 -- a name in brackets is an expression
 abbrev bracketed : ℕ → Lexeme → Lexeme → Word
@@ -248,4 +248,5 @@ group_within m d a b is next = let s = group_level m 7 d a b is next in (s.0, d,
 
 -- "(" and a name begin an expression
 pub group_begins : (d : ℕ) (a b : Lexeme) → is_kind k.OpenParenthesis a ≡ true → is_kind k.Name b ≡ true → (w : Word) × (x : Expr) × (e : ℕ) × g.expression d ((a, d + 1) ∷ (b, d + 1 + 0) ∷ w) x e
-group_begins d a b is next = let s = group_within 256 d a b is next in ((a_token k.CloseParenthesis, d + 1 + 0) ∷ [], s.0, s.1, (0, s.2))
+group_begins d a b is next = let s = group_within 0 d a b is next in
+    ((a_token k.CloseParenthesis, d + 1 + 0) ∷ [], s.0, s.1, (2, s.2))

@@ -1,6 +1,6 @@
 -- The grammar of expressions and paths. Source: the textual grammar of IEC 61131-3:2013, narrowed to this profile. A rule that begins with a
 -- name is written with the name first and what may follow it behind. The code descends by a look at the next token, or at the next two.
-use Rattle.std.specs.Prelude.{ℕ, zero, suc, ◌+◌, Bool, true, false, List, [], ◌∷◌, ◌++◌, Option, Some, None}
+use Rattle.std.specs.Prelude.{ℕ, zero, suc, Bool, true, false, List, [], ◌∷◌, ◌++◌, Option, Some, None}
 use Rattle.token_grammar.specs.declared.token.TokenKind.{TokenKind}
 use Rattle.token_grammar.specs.declared.token.TokenKind.TheVariants as k
 use Rattle.token_grammar.specs.Texts.{Lexeme}
@@ -187,7 +187,6 @@ unfoldable pub nested : ℕ → Rule Expr
 nested zero d w x e = ⊥
 nested (suc n) d w x e = whole (nested n) d w x e
 
--- An expression, in which expressions nest to whatever depth. (Each bound reads what a smaller one does, so that it may as well begin with one
--- that the depth of no text reaches.)
+-- An expression, in which expressions nest to whatever depth.
 abbrev pub expression : Rule Expr
-expression d w x e = (n : ℕ) × nested (258 + n) d w x e
+expression d w x e = (n : ℕ) × nested n d w x e

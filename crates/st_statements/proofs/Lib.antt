@@ -1,4 +1,7 @@
 pub mod SimpleStatements
 pub mod LabelForms
+pub mod ReadingForms
+mod NamedStatements
+mod CaseBranches
+mod SameStatements
 pub mod StatementExactness
-pub mod CaseBranches

@@ -14,6 +14,7 @@ use Rattle.st_statements.specs.Trees.{path_from, argument_ended, input_of, outpu
 use Rattle.st_expr.specs.Grammar.{expression as expression_rule, located as located_rule, path as path_rule, more_parts as more_parts_rule}
 use Rattle.st_expr.specs.steps.Parse as e
 use Rattle.st_statements.specs.Grammar as g
+use Rattle.st_statements.specs.steps.Reading as reading
 use Rattle.st_statements.specs.steps.Parse as p
 use Rattle.st_expr.proofs.Leaves.{form_identifier, level_identifier}
 use Rattle.st_expr.proofs.Rules as rules
@@ -91,11 +92,11 @@ form_called = form_scoped (form_take k.OpenParenthesis 1 1 (λ _. bind_starts {W
 
 -- ---- statements that begin with a name
 
-form_call_behind : {V : ℕ → Type 0} (name : Identifier) → Form V (p.call_behind name) (g.call_behind name) (k.OpenParenthesis ∷ []) []
+form_call_behind : {V : ℕ → Type 0} (name : Identifier) → Form V (p.call_behind name) (reading.call_behind name) (k.OpenParenthesis ∷ []) []
 unfolding p.call_behind
 form_call_behind {V} name = form_then {W = Anywhere} form_called (λ found. (form_as (λ l. call_from name found l.end) (form_token k.Semicolon 0 0)).exact) (anywhere V g.called)
 
-form_assign_behind : (name : Identifier) → Form Shallow (p.assign_behind name) (g.assign_behind name) (part_kinds ++ k.Becomes ∷ []) []
+form_assign_behind : (name : Identifier) → Form Shallow (p.assign_behind name) (reading.assign_behind name) (part_kinds ++ k.Becomes ∷ []) []
 unfolding p.assign_behind e.parts
 form_assign_behind name = form_many_then [] form_more_parts
     (λ ps. form_take {W = Shallow} k.Becomes 0 0 (λ _. (form_join {W = Anywhere} form_expression (λ x. form_as (λ l. assign_from name (path_from name ps) x l.end) (form_token k.Semicolon 0 0)) refl (anywhere Shallow expression_rule)).exact) stays)
@@ -104,28 +105,28 @@ form_assign_behind name = form_many_then [] form_more_parts
 abbrev pub behind_kinds : List TokenKind
 behind_kinds = k.OpenParenthesis ∷ part_kinds ++ k.Becomes ∷ []
 
-pub form_behind_name : (name : Identifier) → Form Shallow (p.behind_name name) (g.behind_name name) behind_kinds []
+pub form_behind_name : (name : Identifier) → Form Shallow (p.behind_name name) (reading.behind_name name) behind_kinds []
 unfolding p.behind_name
 form_behind_name name = form_or k.OpenParenthesis (form_call_behind name) (form_assign_behind name) refl
 
-pub form_named : Form Shallow p.named g.named (k.Name ∷ []) []
+pub form_named : Form Shallow p.named reading.named (k.Name ∷ []) []
 unfolding p.named
 form_named = form_then form_identifier (λ name. (form_behind_name name).exact) (level_carries Shallow level_identifier)
 
-pub level_behind_name : (name : Identifier) → IsLevel (g.behind_name name)
+pub level_behind_name : (name : Identifier) → IsLevel (reading.behind_name name)
 level_behind_name name = level_or (level_bind (level_scoped _) (λ found. level_then k.Semicolon (λ l. level_give (call_from name found l.end))))
     (level_bind (level_many level_more_parts []) (λ ps. level_then k.Becomes (λ _. level_bind level_expression (λ x. level_then k.Semicolon (λ l. level_give (assign_from name (path_from name ps) x l.end))))))
 
-pub level_named : IsLevel g.named
+pub level_named : IsLevel reading.named
 level_named = level_bind level_identifier level_behind_name
 
 -- ---- the others
 
-pub form_assign : Form Shallow p.assign g.assign (k.Address ∷ []) []
+pub form_assign : Form Shallow p.assign reading.assign (k.Address ∷ []) []
 unfolding p.assign
 form_assign = form_node make_assign (form_join {W = Shallow} form_located (λ target. form_take {W = Shallow} k.Becomes 0 0 (λ _. (form_join {W = Anywhere} form_expression (λ x. form_last k.Semicolon (target, x)) refl (anywhere Shallow expression_rule)).exact) stays) refl (level_carries Shallow level_located))
 
-pub level_assign : IsLevel g.assign
+pub level_assign : IsLevel reading.assign
 level_assign = level_node make_assign (level_bind level_located (λ target. level_then k.Becomes (λ _. level_bind level_expression (λ x. level_then k.Semicolon (λ _. level_give (target, x))))))
 
 pub form_return : {V : ℕ → Type 0} → Form V p.return_stmt g.return_stmt (k.Return ∷ []) []

@@ -3,10 +3,8 @@
 
 mod cases;
 mod labels;
-mod law;
 mod simple;
 mod statements;
 mod structured;
 
-pub use law::case_laws;
 pub use statements::statement_list;

@@ -14,10 +14,18 @@ PROGRAM Scale
 END_PROGRAM
 PROGRAM Batch
   VAR presses : CTU; wait : TON; END_VAR
-  presses(CU := start, R := FALSE, PV := 10);
-  target := presses.CV * 70;
-  wait(IN := start, PT := T#5s);
-  valve := percent < target;
+  INITIAL_STEP Idle: Count(N); END_STEP
+  STEP Fill: Count(N); Feed(N); END_STEP
+  TRANSITION FROM Idle TO Fill := start; END_TRANSITION
+  TRANSITION FROM Fill TO Idle := percent >= target AND wait.Q; END_TRANSITION
+  ACTION Count:
+    presses(CU := start, R := FALSE, PV := 10);
+    target := presses.CV * 70;
+  END_ACTION
+  ACTION Feed:
+    wait(IN := Fill.X, PT := T#5s);
+    valve := percent < target;
+  END_ACTION
 END_PROGRAM
 PROGRAM Show
   ratio := percent * 100 / target;

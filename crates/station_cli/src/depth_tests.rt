@@ -14,7 +14,7 @@ struct Nesting {
     rows: &'static [(usize, &'static str, &'static str)],
 }
 
-const NESTINGS: [Nesting; 54] = [
+const NESTINGS: [Nesting; 58] = [
     // Operators: each counts up to the end of the expression, whatever its rank.
     Nesting {
         before: "PROGRAM P n := a\n",
@@ -470,6 +470,40 @@ const NESTINGS: [Nesting; 54] = [
         closing: "",
         after: "]; END_VAR END_PROGRAM",
         rows: &[(300, "1", "")],
+    },
+    // Charts: an action and a transition count nothing themselves.
+    Nesting {
+        before: "PROGRAM P INITIAL_STEP S: END_STEP ACTION A:\n",
+        part: "IF a THEN\n",
+        closing: "END_IF",
+        after: " END_ACTION END_PROGRAM",
+        rows: &[
+            (256, "", ""),
+            (255, "b := f(c);", ""),
+            (256, "b := f(c);", "258:7 7 TooDeep"),
+            (257, "", "258:1 7 TooDeep"),
+        ],
+    },
+    Nesting {
+        before: "PROGRAM P INITIAL_STEP S: END_STEP TRANSITION FROM (S) TO (S) := a\n",
+        part: "AND b\n",
+        closing: "",
+        after: "; END_TRANSITION END_PROGRAM",
+        rows: &[(256, "", ""), (257, "", "258:5 7 TooDeep")],
+    },
+    Nesting {
+        before: "PROGRAM P INITIAL_STEP S: END_STEP TRANSITION FROM (S,\n",
+        part: "S,\n",
+        closing: "",
+        after: " S) TO S := a; END_TRANSITION END_PROGRAM",
+        rows: &[(300, "", "")],
+    },
+    Nesting {
+        before: "PROGRAM P INITIAL_STEP S: A(N);\n",
+        part: "A(R);\n",
+        closing: "",
+        after: " END_STEP STEP T: END_STEP END_PROGRAM",
+        rows: &[(300, "", "")],
     },
 ];
 

@@ -20,7 +20,6 @@ use first_form::{ParseFault, SourceTree, Stmt, first_form, tree_laws};
 use iec_tables::fault::FaultCode;
 use interval_domain::grid::Grid;
 use interval_domain::interval::Interval;
-use tree_items::Items;
 use st_lexer::{LexFault, cut_laws, tokens};
 use st_tree::{CellInfo, Component, Hit, NodeNo, PlanRefusal};
 use st_units::{ParseFault as FileFault, file_laws, parse_parts};
@@ -30,6 +29,7 @@ use station_ports::texts::{FileText, Name};
 use std::alloc::{AllocError, Global};
 use std::sync::ledger::Ledger;
 use task_config::plan;
+use tree_items::Items;
 
 /// The report on a file of that name.
 pub(crate) fn report_on<L: Ledger>(

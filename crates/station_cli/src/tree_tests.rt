@@ -2,7 +2,6 @@
 ghost use Rattle.std.specs.Prelude.{◌≡◌};
 
 use iec_tables::fault::FaultCode;
-use tree_items::Items;
 use st_expr::{ParseFault as FrontFault, parse_expression, parse_statements};
 use st_lexer::{LexFault, tokens};
 use st_tree::{BinaryOperator, Expr, FilePart, SourceTree, Stmt, Unit};
@@ -12,6 +11,7 @@ use std::alloc::Global;
 use std::marker::Brand;
 use std::sync::ledger::{Blank, Ledger};
 use tree_copies::{Copied, Counting, Starts, number_parts};
+use tree_items::Items;
 
 /// An operator between two operands, with its number, its first byte and the byte after its last.
 fn binary(tree: &Expr) -> Option<(BinaryOperator, u32, usize, usize)> {

@@ -1,5 +1,5 @@
 -- What is to be known of a rule that reads one token or more, in one record, and the steps that keep it.
-use Rattle.std.proofs.Common.{◌≡◌, ℕ, zero, suc, ◌+◌, ◌<◌, ◌≤◌, Bool, true, false, cond, List, [], ◌∷◌, ◌++◌, refl, sym, subst, ◌∙◌, arith, inl, inr}
+use Rattle.std.proofs.Common.{◌≡◌, ℕ, zero, suc, ◌+◌, ◌<◌, ◌≤◌, Bool, true, false, List, [], ◌∷◌, ◌++◌, refl, sym, subst, ◌∙◌, arith, inl, inr}
 use Rattle.std.proofs.lemmas.List.{append-nil}
 use Rattle.token_grammar.specs.declared.token.TokenKind.{TokenKind}
 use Rattle.token_grammar.specs.Texts.{Lexeme}
@@ -9,7 +9,7 @@ use Rattle.token_grammar.specs.Grammar.{Word, Rule, lexemes_of, Within, ◌>>=�
 use Rattle.token_grammar.proofs.Laws.{Exact, Some_, lexemes_of-two}
 use Rattle.token_grammar.proofs.OneToken.{exact_token}
 use Rattle.token_grammar.proofs.Bind.{bind}
-use Rattle.token_grammar.proofs.Steps.{exact_give, exact_same, exact_choose, exact_scoped, exact_deeper, exact_node}
+use Rattle.token_grammar.proofs.Steps.{exact_same, exact_choose, exact_scoped, exact_deeper, exact_node}
 use Rattle.token_grammar.proofs.Loops.{Turn, exact_repeated, after}
 use Rattle.token_grammar.proofs.Starts.{sees_any, disjoint, Starts, sees_other, only_true, only_false, or_left, any_left, any_right, in_either, refuses_end, one_of, fewer_left, fewer_right, one_of_any, none_of_any, starts_long, starts_token, starts_bind, starts_or, starts_scoped, starts_deeper, starts_node, bind_starts, bind_give, choose_kind, choose_none, or_false, Opens, opens_token, opens_bind, opens_or, opens_scoped, opens_deeper, opens_node, held_of, IsLevel}
 

@@ -15,3 +15,5 @@ pub mod Pairs
 pub mod Whole
 pub mod Three
 pub mod Loose
+pub mod Same
+pub mod Words

@@ -1,6 +1,6 @@
 -- Statements as the code reads them: a leading name first, and what may follow it behind; a CASE as one list of labels and statements. These
 -- rules spell what those of the grammar do. A step on the way from the code to the grammar.
-use Rattle.std.specs.Prelude.{ℕ, zero, suc, ◌+◌, List, [], ◌∷◌, ◌++◌}
+use Rattle.std.specs.Prelude.{ℕ, zero, suc, List, [], ◌∷◌, ◌++◌}
 use Rattle.token_grammar.specs.declared.token.TokenKind.TheVariants as k
 use Rattle.token_grammar.specs.Grammar.{Rule, ◌>>=◌, ◌or◌, give, token, node, many}
 use Rattle.st_tree.specs.declared.expression.Identifier.{Identifier}
@@ -58,7 +58,3 @@ module _ (inner : Rule Stmt) where
 unfoldable pub nested : ℕ → Rule Stmt
 nested zero d w x e = ⊥
 nested (suc n) d w x e = unnamed (nested n) d w x e
-
--- Statements, to a depth that no text reaches, and deeper.
-abbrev pub statements : Rule (List Stmt)
-statements d w x e = (n : ℕ) × body (nested (258 + n)) d w x e
