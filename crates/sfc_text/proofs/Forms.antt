@@ -17,7 +17,8 @@ use Rattle.st_expr.proofs.Operators.{or_is, last_is}
 use Rattle.st_expr.proofs.Exactness.{goes_on, form_expression, level_expression}
 use Rattle.st_expr.proofs.Lists.{Here, one_kind, stays, into, exact_each, level_each, exact_last, level_last}
 use Rattle.st_expr.proofs.NameLists.{exact_names}
-use Rattle.st_statements.proofs.StatementExactness.{statement_kinds, exact_statements, level_statements}
+use Rattle.st_statements.proofs.ReadingForms.{statement_kinds}
+use Rattle.st_statements.proofs.StatementExactness.{exact_statements, level_statements}
 
 -- ---- steps
 

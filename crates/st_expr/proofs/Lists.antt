@@ -1,12 +1,12 @@
--- Lists of declarations: one after the other, or with commas between them; what ends with one token; rules that nest to a depth.
-use Rattle.std.proofs.Common.{◌≡◌, ℕ, zero, suc, ◌+◌, ◌<◌, ◌≤◌, Bool, true, false, List, [], ◌∷◌, ◌++◌, arith}
+-- Lists: one after the other, or with commas between them; what ends with one token.
+use Rattle.std.proofs.Common.{◌≡◌, ℕ, suc, ◌+◌, ◌≤◌, Bool, true, false, List, [], ◌∷◌, ◌++◌, arith}
 use Rattle.token_grammar.specs.declared.token.TokenKind.{TokenKind}
 use Rattle.token_grammar.specs.declared.token.TokenKind.TheVariants as k
 use Rattle.token_grammar.specs.Texts.{Lexeme}
 use Rattle.token_grammar.specs.Input.{Parser, and_then, pure, take, repeated, sees_in}
 use Rattle.token_grammar.specs.Grammar.{Rule, ◌>>=◌, give, token, many}
-use Rattle.token_grammar.proofs.Laws.{Exact, Some_}
-use Rattle.token_grammar.proofs.Steps.{exact_same, told_same}
+use Rattle.token_grammar.proofs.Laws.{Exact}
+use Rattle.token_grammar.proofs.Steps.{exact_same}
 use Rattle.token_grammar.proofs.Starts.{sees_any, disjoint, Starts, IsLevel, bind_starts, bind_give, starts_bind, starts_token}
 use Rattle.token_grammar.proofs.Forms.{Form, Inner, Anywhere, anywhere, level_carries, form_take, form_as, form_last, exact_many, exact_list, level_bind, level_give, level_many, level_then}
 use Rattle.token_grammar.proofs.Loose.{Loose, loose_many}
@@ -72,41 +72,3 @@ starts_last kind b = starts_bind (starts_token kind 0 0)
 
 pub level_last : {B : Type 0} (kind : TokenKind) (b : B) → IsLevel (token kind >>= λ _. give b)
 level_last kind b = level_then kind (λ _. level_give b)
-
--- ---- rules that nest to a depth
-
-module _ {A : Type 0} (parser : ℕ → Parser A) (rule : ℕ → Rule A) (firsts ends : List TokenKind) (level : (m : ℕ) → IsLevel (rule m)) (some : (m d : ℕ) → Some_ (rule (suc m)) d)
-    (step : (n m : ℕ) → n < m → Exact (Inner n) (parser n) (rule m) (sees_any ends) → Form (Inner (suc n)) (parser (suc n)) (rule (suc m)) firsts ends) where
-  exact_within : (n m : ℕ) → n < m → Exact (Inner n) (parser n) (rule m) (sees_any ends)
-  exact_within n zero lt = absurd (omega (arith, lt))
-  exact_within zero (suc m) lt = record {
-    told = λ i v. absurd (omega (arith, v));
-    complete = λ d w x e v. absurd (omega (arith, v));
-    local = λ last d v. absurd (omega (arith, v));
-    cut = λ last d v. absurd (omega (arith, v));
-    some = some m;
-    rises = λ d w x e l. omega (arith, level (suc m) d w x e l);
-  }
-  exact_within (suc n) (suc m) lt = (step n m (omega (arith, lt)) (exact_within n m (omega (arith, lt)))).exact
-
-  abbrev all : Rule A
-  all d w x e = (n : ℕ) × rule (258 + n) d w x e
-
-  exact_all : Exact Here (parser 257) all (sees_any ends)
-  exact_all =
-      let h = exact_within 257 258 (omega arith) in
-      record {
-        told = λ i v. told_same (rule 258) all i (parser 257 i) (h.told i v) (λ d w x e l. (0, l));
-        complete = λ d w x e v (n, l) last rest ends_here. (exact_within 257 (258 + n) (omega arith)).complete d w x e v l last rest ends_here;
-        local = h.local;
-        cut = h.cut;
-        some = λ d. let s = h.some d in record { word = s.word; value = s.value; depth = s.depth; spelled = (0, s.spelled) };
-        rises = λ d w x e (n, l). (exact_within 257 (258 + n) (omega arith)).rises d w x e l;
-      }
-
-  pub form_all : ((m : ℕ) → Starts (rule m) firsts) → Form Here (parser 257) all firsts ends
-  form_all starts = record {
-    exact = exact_all;
-    starts = record { sees = λ d w x e (n, l) rest. (starts (258 + n)).sees d w x e l rest };
-    opens = record { word = λ d t r e. let (at, w, x, m, l) = (step 256 257 (omega arith) (exact_within 256 257 (omega arith))).opens.word d t r e in (at, w, x, m, (0, l)) };
-  }

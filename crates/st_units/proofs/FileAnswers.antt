@@ -10,26 +10,27 @@ use Rattle.token_grammar.specs.Texts.{Lexeme, lexeme, lexemes}
 use Rattle.token_grammar.specs.Kept.{is_kept, words_of, place_at}
 use Rattle.token_grammar.specs.Grammar.{lexemes_of, Spells, IsTooDeep, IsWrong}
 use Rattle.token_grammar.specs.Input.{Input, Reads}
-use Rattle.token_grammar.proofs.Laws.{input, Exact}
-use Rattle.token_grammar.proofs.Starts.{sees_any}
+use Rattle.token_grammar.proofs.Laws.{input}
 use Rattle.token_grammar.proofs.Whole.{one_spelled, not_deep, one_wrong, one_deep, not_both}
 use Rattle.st_lexer.specs.Placed.{IsIn}
 use Rattle.st_tree.specs.declared.file.FilePart.{FilePart}
-use Rattle.st_statements.specs.Grammar.{statements as statements_rule}
-use Rattle.st_statements.specs.steps.Parse.{statements as statements_parser}
-use Rattle.st_statements.proofs.StatementExactness.{exact_statements, loose_statements, level_statements}
-use Rattle.st_units.specs.Parse as p
-use Rattle.st_units.specs.Answers.{IsBroken}
-use Rattle.st_units.specs.Files.{IsFile, IsFileFault, file, IsCause, Refuses, fault_of}
+use Rattle.st_expr.proofs.Lists.{Here}
+use Rattle.st_units.specs.Grammar.{file}
+use Rattle.st_units.specs.Files.{IsFile, IsFileFault, IsFileCause}
 use Rattle.st_units.specs.FileLaws.{SomeFile, OneFile, OneFileFault, NoneOfBoth, FaultIn}
-use Rattle.st_units.proofs.Lists.{Here}
-use Rattle.st_units.proofs.UnitForms.{part_kinds, exact_parts}
-use Rattle.st_units.proofs.FileForms.{IsAnswer, statement_kinds, file_of_statements, HasAnswer, some_answer}
+use Rattle.st_units.specs.steps.Found.{PartsFound, fault_of}
+use Rattle.st_units.specs.steps.Parse as p
+use Rattle.st_units.proofs.UnitForms.{exact_parts}
+use Rattle.st_units.proofs.FileForms.{IsAnswer, answered_by, HasAnswer, some_answer}
 
-pub answered : (last : ℕ) (ts : List Lexeme) (result : Result (List FilePart) ParseError) (new : Input) → Reads (p.file statements_parser (input last 0 ts)) result new → IsAnswer file ts result new.rest
-answered = file_of_statements statements_parser statements_rule exact_statements loose_statements level_statements
+pub answered : (ts : List Lexeme) (result : Result (List FilePart) ParseError) (new : Input)
+    → Reads (p.file (input 0 0 ts)) result new → IsAnswer file ts result new.rest
+unfolding p.file
+answered ts result new reads = answered_by exact_parts refl ts result new reads
 
-pub refused : (text : List ℕ) (tokens : List Token) (e : ParseError) (rest : List Lexeme) → IsAnswer file (words_of text tokens) (Err e) rest → Refuses text tokens (fault_of e (place_at text rest))
+pub refused : (text : List ℕ) (tokens : List Token) (e : ParseError) (rest : List Lexeme)
+    → IsAnswer file (words_of text tokens) (Err e) rest
+    → PartsFound text tokens (Err (fault_of e (place_at text rest)))
 refused text tokens error.Memory rest h = tt
 refused text tokens error.Grammar rest h = record { rest = rest; cause = h; place = refl }
 refused text tokens error.TooDeep rest h = record { rest = rest; cause = h; place = refl }
@@ -39,39 +40,33 @@ refused text tokens error.TooDeep rest h = record { rest = rest; cause = h; plac
 here : Here 0
 here = (omega arith, omega arith)
 
-exact_file : Exact Here (p.parts statements_parser) file (sees_any part_kinds)
-exact_file = exact_parts statements_parser statements_rule statement_kinds exact_statements loose_statements level_statements refl refl refl refl refl refl
-
-wrong_of : (ts rest : List Lexeme) → IsBroken file ts rest → IsWrong file ts rest
-wrong_of ts rest b = record { word = b.word; more = b.more; value = b.value; depth = b.depth; tokens = b.tokens; begun = b.begun; within = b.within; longest = b.longest; unspelled = λ x s. b.unspelled s.word x s.depth s.spelled (sym s.tokens) }
-
 abbrev Split : List Lexeme → List Lexeme → FaultCode → Type 0
 Split ts rest code = ((code ≡ fault.Grammar) × IsWrong file ts rest) ⊎ ((code ≡ fault.TooDeep) × IsTooDeep file 0 ts rest)
 
-split : (ts rest : List Lexeme) (code : FaultCode) → IsCause ts rest code → Split ts rest code
+split : (ts rest : List Lexeme) (code : FaultCode) → IsFileCause ts rest code → Split ts rest code
 split ts rest fault.NotUtf8 h = absurd h
 split ts rest fault.BadByte h = absurd h
 split ts rest fault.OpenComment h = absurd h
 split ts rest fault.BadNumber h = absurd h
 split ts rest fault.BadName h = absurd h
-split ts rest fault.Grammar h = inl (refl, wrong_of ts rest h)
+split ts rest fault.Grammar h = inl (refl, h)
 split ts rest fault.TooDeep h = inr (refl, h)
 
 pub some_file : SomeFile
-some_file text tokens = by (some_answer exact_file refl 0 (words_of text tokens)) where
-  by : HasAnswer exact_file refl 0 (words_of text tokens) → ((parts : List FilePart) × IsFile text tokens parts) ⊎ ((code : FaultCode) × (at : ℕ) × IsFileFault text tokens code at)
+some_file text tokens = by (some_answer exact_parts refl (words_of text tokens)) where
+  by : HasAnswer exact_parts refl (words_of text tokens) → ((parts : List FilePart) × IsFile text tokens parts) ⊎ ((code : FaultCode) × (at : ℕ) × IsFileFault text tokens code at)
   by (inl s) = inl s
   by (inr (inl b)) = inr (fault.Grammar, place_at text b.0, record { rest = b.0; cause = b.1; place = refl })
   by (inr (inr d)) = inr (fault.TooDeep, place_at text d.0, record { rest = d.0; cause = d.1; place = refl })
 
 pub one_file : OneFile
-one_file text tokens parts other a b = one_spelled exact_file refl here (words_of text tokens) parts other a b
+one_file text tokens parts other a b = one_spelled exact_parts refl here (words_of text tokens) parts other a b
 
 same_by : (ts r s : List Lexeme) (code other : FaultCode) → Split ts r code → Split ts s other → (code ≡ other) × (r ≡ s)
-same_by ts r s code other (inl (e, a)) (inl (f, b)) = (e ∙ sym f, one_wrong exact_file refl here ts r s a b)
-same_by ts r s code other (inl (e, a)) (inr (f, b)) = absurd (not_both exact_file refl here ts r s a b)
-same_by ts r s code other (inr (e, a)) (inl (f, b)) = absurd (not_both exact_file refl here ts s r b a)
-same_by ts r s code other (inr (e, a)) (inr (f, b)) = (e ∙ sym f, one_deep exact_file refl here ts r s a b)
+same_by ts r s code other (inl (e, a)) (inl (f, b)) = (e ∙ sym f, one_wrong exact_parts refl here ts r s a b)
+same_by ts r s code other (inl (e, a)) (inr (f, b)) = absurd (not_both exact_parts refl here ts r s a b)
+same_by ts r s code other (inr (e, a)) (inl (f, b)) = absurd (not_both exact_parts refl here ts s r b a)
+same_by ts r s code other (inr (e, a)) (inr (f, b)) = (e ∙ sym f, one_deep exact_parts refl here ts r s a b)
 
 pub one_file_fault : OneFileFault
 one_file_fault text tokens code other at place a b =
@@ -81,7 +76,7 @@ one_file_fault text tokens code other at place a b =
 
 none_by : (ts rest : List Lexeme) (code : FaultCode) (parts : List FilePart) → Spells file ts parts → Split ts rest code → ⊥
 none_by ts rest code parts s (inl (e, a)) = a.unspelled parts s
-none_by ts rest code parts s (inr (e, a)) = not_deep exact_file refl here ts rest parts s a
+none_by ts rest code parts s (inr (e, a)) = not_deep exact_parts refl here ts rest parts s a
 
 pub none_of_both : NoneOfBoth
 none_of_both text tokens parts code at is h = none_by (words_of text tokens) h.rest code parts is (split (words_of text tokens) h.rest code h.cause)

@@ -1,9 +1,5 @@
-pub mod Lists
-pub mod SpecForms
-pub mod InitForms
-pub mod DeclForms
-pub mod ConfigForms
 pub mod UnitForms
 pub mod FileForms
 pub mod FileAnswers
-pub mod CommentTrees
+pub mod FrontLaws
+pub mod FrontAnswers

@@ -1,33 +1,50 @@
-// Units, and files of them. The parser of a body is a parameter.
+// Units, and files of them.
 
-ghost use Rattle.std.specs.Prelude.{◌≡◌, List};
-ghost use Rattle.token_grammar.specs.Input.{Parser, Reads, ReadsTo, view};
-ghost use Rattle.st_tree.specs.declared.statement.Stmt as statements;
-ghost use Rattle.st_units.specs.Parse as spec;
+ghost use Rattle.std.specs.Prelude.{◌≡◌};
+ghost use Rattle.token_grammar.specs.Input.{Reads, ReadsTo, view};
+ghost use Rattle.st_units.specs.steps.Parse as spec;
 
-use crate::configurations::config;
-use crate::declarations::{globals, sections};
-use crate::structures::types;
-use crate::type_names::typename;
-use tree_items::Items;
+use sfc_text::sfc;
+use st_declarations::{config, globals, sections, typename, types};
 use st_expr::{identifier, node_at};
-use st_tree::{FilePart, Stmt, Unit, UnitKind};
+use st_statements::statement_list;
+use st_tree::{Body, FilePart, Unit, UnitKind};
 use std::alloc::Global;
 use token_grammar::{Cursor, ParseError, TokenKind};
+use tree_items::Items;
 
-/// What reads the body of a unit.
-pub trait Body {
-    ghost parser: { Parser (List statements.Stmt) };
+/// A chart.
+#[tactic(auto, unfolding(crate::specs::steps::Parse::chart_body))]
+fn chart_body(alloc: Global, cursor: &mut Cursor<'_>) -> Result<Body, ParseError>
+    ensures { Reads (spec.chart_body (view cursor.old)) result (view cursor.new) }
+{
+    Ok(Body::Chart(sfc(alloc, cursor)?))
+}
 
-    /// The statements of a body.
-    fn read(&self, alloc: Global, cursor: &mut Cursor<'_>) -> Result<Items<Stmt>, ParseError>
-        ensures { Reads (parser (view cursor.old)) result (view cursor.new) };
+/// Statements.
+#[tactic(auto, unfolding(crate::specs::steps::Parse::statements_body))]
+fn statements_body(alloc: Global, cursor: &mut Cursor<'_>) -> Result<Body, ParseError>
+    ensures { Reads (spec.statements_body (view cursor.old)) result (view cursor.new) }
+{
+    Ok(Body::Statements(statement_list(alloc, cursor)?))
+}
+
+/// `sfc | statements`
+#[tactic(auto, unfolding(crate::specs::steps::Parse::body))]
+fn body(alloc: Global, cursor: &mut Cursor<'_>) -> Result<Body, ParseError>
+    ensures { Reads (spec.body (view cursor.old)) result (view cursor.new) }
+{
+    if cursor.sees(TokenKind::InitialStep) {
+        chart_body(alloc, cursor)
+    } else {
+        statements_body(alloc, cursor)
+    }
 }
 
 /// `FUNCTION name ":" typename { section } body END_FUNCTION`
-#[tactic(auto, unfolding(crate::specs::Parse::function))]
-fn function<B: Body>(alloc: Global, cursor: &mut Cursor<'_>, body: &B) -> Result<Unit, ParseError>
-    ensures { Reads (spec.function B.parser (view cursor.old)) result (view cursor.new) }
+#[tactic(auto, unfolding(crate::specs::steps::Parse::function))]
+fn function(alloc: Global, cursor: &mut Cursor<'_>) -> Result<Unit, ParseError>
+    ensures { Reads (spec.function (view cursor.old)) result (view cursor.new) }
 {
     let start = cursor.start();
     cursor.take(TokenKind::Function)?;
@@ -35,7 +52,7 @@ fn function<B: Body>(alloc: Global, cursor: &mut Cursor<'_>, body: &B) -> Result
     cursor.take(TokenKind::Colon)?;
     let kind = typename(alloc, cursor)?;
     let sections = sections(alloc, cursor)?;
-    let body = body.read(alloc, cursor)?;
+    let body = body(alloc, cursor)?;
     cursor.take(TokenKind::EndFunction)?;
     Ok(Unit {
         node: node_at(start, cursor.last),
@@ -47,15 +64,15 @@ fn function<B: Body>(alloc: Global, cursor: &mut Cursor<'_>, body: &B) -> Result
 }
 
 /// `FUNCTION_BLOCK name { section } body END_FUNCTION_BLOCK`
-#[tactic(auto, unfolding(crate::specs::Parse::block, crate::specs::Parse::unit_as))]
-fn block<B: Body>(alloc: Global, cursor: &mut Cursor<'_>, body: &B) -> Result<Unit, ParseError>
-    ensures { Reads (spec.block B.parser (view cursor.old)) result (view cursor.new) }
+#[tactic(auto, unfolding(crate::specs::steps::Parse::block, crate::specs::steps::Parse::unit_as))]
+fn block(alloc: Global, cursor: &mut Cursor<'_>) -> Result<Unit, ParseError>
+    ensures { Reads (spec.block (view cursor.old)) result (view cursor.new) }
 {
     let start = cursor.start();
     cursor.take(TokenKind::FunctionBlock)?;
     let name = identifier(alloc, cursor)?;
     let sections = sections(alloc, cursor)?;
-    let body = body.read(alloc, cursor)?;
+    let body = body(alloc, cursor)?;
     cursor.take(TokenKind::EndFunctionBlock)?;
     Ok(Unit {
         node: node_at(start, cursor.last),
@@ -67,15 +84,15 @@ fn block<B: Body>(alloc: Global, cursor: &mut Cursor<'_>, body: &B) -> Result<Un
 }
 
 /// `PROGRAM name { section } body END_PROGRAM`
-#[tactic(auto, unfolding(crate::specs::Parse::program, crate::specs::Parse::unit_as))]
-fn program<B: Body>(alloc: Global, cursor: &mut Cursor<'_>, body: &B) -> Result<Unit, ParseError>
-    ensures { Reads (spec.program B.parser (view cursor.old)) result (view cursor.new) }
+#[tactic(auto, unfolding(crate::specs::steps::Parse::program, crate::specs::steps::Parse::unit_as))]
+fn program(alloc: Global, cursor: &mut Cursor<'_>) -> Result<Unit, ParseError>
+    ensures { Reads (spec.program (view cursor.old)) result (view cursor.new) }
 {
     let start = cursor.start();
     cursor.take(TokenKind::Program)?;
     let name = identifier(alloc, cursor)?;
     let sections = sections(alloc, cursor)?;
-    let body = body.read(alloc, cursor)?;
+    let body = body(alloc, cursor)?;
     cursor.take(TokenKind::EndProgram)?;
     Ok(Unit {
         node: node_at(start, cursor.last),
@@ -87,7 +104,7 @@ fn program<B: Body>(alloc: Global, cursor: &mut Cursor<'_>, body: &B) -> Result<
 }
 
 /// `types | globals | config`
-#[tactic(auto, unfolding(crate::specs::Parse::other_part))]
+#[tactic(auto, unfolding(crate::specs::steps::Parse::other_part))]
 fn other_part(alloc: Global, cursor: &mut Cursor<'_>) -> Result<FilePart, ParseError>
     ensures { Reads (spec.other_part (view cursor.old)) result (view cursor.new) }
 {
@@ -101,27 +118,26 @@ fn other_part(alloc: Global, cursor: &mut Cursor<'_>) -> Result<FilePart, ParseE
 }
 
 /// `function | block | program | types | globals | config`
-#[tactic(auto, unfolding(crate::specs::Parse::file_part))]
-fn file_part<B: Body>(
+#[tactic(auto, unfolding(crate::specs::steps::Parse::file_part))]
+fn file_part(
     alloc: Global,
     cursor: &mut Cursor<'_>,
-    body: &B,
 ) -> Result<FilePart, ParseError>
-    ensures { Reads (spec.file_part B.parser (view cursor.old)) result (view cursor.new) }
+    ensures { Reads (spec.file_part (view cursor.old)) result (view cursor.new) }
 {
     if cursor.sees(TokenKind::Function) {
-        Ok(FilePart::Unit(function(alloc, cursor, body)?))
+        Ok(FilePart::Unit(function(alloc, cursor)?))
     } else if cursor.sees(TokenKind::FunctionBlock) {
-        Ok(FilePart::Unit(block(alloc, cursor, body)?))
+        Ok(FilePart::Unit(block(alloc, cursor)?))
     } else if cursor.sees(TokenKind::Program) {
-        Ok(FilePart::Unit(program(alloc, cursor, body)?))
+        Ok(FilePart::Unit(program(alloc, cursor)?))
     } else {
         other_part(alloc, cursor)
     }
 }
 
 /// Whether a part of a file comes next.
-#[tactic(auto, unfolding(crate::specs::Parse::sees_file_part))]
+#[tactic(auto, unfolding(crate::specs::steps::Parse::sees_file_part))]
 fn sees_file_part(cursor: &Cursor<'_>) -> bool
     ensures { result ≡ spec.sees_file_part (view cursor.now).rest }
 {
@@ -133,40 +149,38 @@ fn sees_file_part(cursor: &Cursor<'_>) -> bool
                         || cursor.sees(TokenKind::Configuration)))))
 }
 
-#[tactic(auto, unfolding(crate::specs::Parse::more_parts))]
-fn more_parts<B: Body>(
+#[tactic(auto, unfolding(crate::specs::steps::Parse::more_parts))]
+fn more_parts(
     alloc: Global,
     cursor: &mut Cursor<'_>,
-    body: &B,
     found: &mut Items<FilePart>,
 ) -> Result<(), ParseError>
-    ensures { ReadsTo (spec.more_parts B.parser found.old (view cursor.old)) result found.new (view cursor.new) }
+    ensures { ReadsTo (spec.more_parts found.old (view cursor.old)) result found.new (view cursor.new) }
 {
-    found.push(file_part(alloc, cursor, body)?)?;
+    found.push(file_part(alloc, cursor)?)?;
     Ok(())
 }
 
 /// `{ function | block | program | types | globals | config }`
-#[tactic(auto, unfolding(crate::specs::Parse::parts))]
-fn parts<B: Body>(
+#[tactic(auto, unfolding(crate::specs::steps::Parse::parts))]
+fn parts(
     alloc: Global,
     cursor: &mut Cursor<'_>,
-    body: &B,
 ) -> Result<Items<FilePart>, ParseError>
-    ensures { Reads (spec.parts B.parser (view cursor.old)) result (view cursor.new) }
+    ensures { Reads (spec.parts (view cursor.old)) result (view cursor.new) }
 {
     let mut found = Items::new(alloc);
     for _turn in 0..cursor.rest.len() {
         if !sees_file_part(cursor) {
             return Ok(found);
         }
-        more_parts(alloc, cursor, body, &mut found)?;
+        more_parts(alloc, cursor, &mut found)?;
     }
     Ok(found)
 }
 
 /// Nothing is left.
-#[tactic(auto, unfolding(crate::specs::Parse::ended, crate::specs::Parse::ended_by))]
+#[tactic(auto, unfolding(crate::specs::steps::Parse::ended, crate::specs::steps::Parse::ended_by))]
 fn ended(cursor: &Cursor<'_>) -> Result<(), ParseError>
     ensures { Reads (spec.ended (view cursor.now)) result (view cursor.now) }
 {
@@ -177,15 +191,14 @@ fn ended(cursor: &Cursor<'_>) -> Result<(), ParseError>
 }
 
 /// The parts of a file, in the order of the text, to its end.
-#[tactic(auto, unfolding(crate::specs::Parse::file))]
-pub fn file<B: Body>(
+#[tactic(auto, unfolding(crate::specs::steps::Parse::file))]
+pub fn file(
     alloc: Global,
     cursor: &mut Cursor<'_>,
-    body: &B,
 ) -> Result<Items<FilePart>, ParseError>
-    ensures { Reads (spec.file B.parser (view cursor.old)) result (view cursor.new) }
+    ensures { Reads (spec.file (view cursor.old)) result (view cursor.new) }
 {
-    let found = parts(alloc, cursor, body)?;
+    let found = parts(alloc, cursor)?;
     ended(cursor)?;
     Ok(found)
 }

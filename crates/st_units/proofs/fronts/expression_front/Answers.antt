@@ -1,39 +1,9 @@
-use Rattle.std.proofs.Common.{◌≡◌, List, length, drop, Err, refl, sym, ap, subst, ◌∙◌, arith}
-use Rattle.std.specs.List.{filter}
-use Rattle.std.proofs.lemmas.List.{length-map}
-use Rattle.token_grammar.specs.declared.token.Token.{Token}
-use Rattle.token_grammar.specs.Texts.{lexeme, lexemes}
-use Rattle.token_grammar.specs.Kept.{is_kept}
-use Rattle.token_grammar.specs.Input.{view}
-use Rattle.token_grammar.proofs.Laws.{input}
-use Rattle.token_grammar.proofs.Found.{ok_of, err_of}
-use Rattle.st_statements.specs.steps.Parse as p
+use Rattle.std.proofs.Common.{refl}
 use Rattle.st_expr.proofs.Exactness.{exact_expression}
-use Rattle.st_units.proofs.FrontAnswers.{shallow, no_longer, front_found, front_refused}
+use Rattle.st_units.proofs.FrontAnswers.{finds}
 use Rattle.st_units.proofs.fronts.expression_front.Goals as goal
-
-pub overflow_sub-read : goal.overflow_sub-read
-overflow_sub-read c =
-    let o = view c.expression.new.cursor in
-    let read = ok_of _ c.expression.result o c.in-Ok.tree c.in-Ok.is c.expression.ensures in
-    let le = no_longer exact_expression refl c.args.outer (shallow c.args.outer c.requires.outer) (lexemes c.args.tokens.now.text.now c.as_slice-2.result.now) c.in-Ok.tree o read in
-    omega (arith, le, c.len.ensures, c.as_slice-2.ensures.len, length-map c.as_slice-2.result.now (lexeme c.args.tokens.now.text.now), length-map c.expression.new.cursor.rest.now (lexeme c.expression.new.cursor.text.now))
-
-pub returns-in-Ok : goal.returns-in-Ok
-returns-in-Ok c =
-    let o = view c.expression.new.cursor in
-    let read = ok_of _ c.expression.result o c.in-Ok.tree c.in-Ok.is c.expression.ensures in
-    let tokens = c.args.tokens.now.list.items in
-    let kept : c.as_slice-2.result.now ≡ filter is_kept (drop c.args.from tokens) = c.as_slice-2.ensures.value ∙ c.in_ok-kept.ensures ∙ ap (λ (ts : List Token). filter is_kept (drop c.args.from ts)) c.as_slice.ensures.value in
-    front_found exact_expression refl c.args.outer (shallow c.args.outer c.requires.outer) c.args.tokens.now.text.now tokens c.as_slice-in-Ok.result.now c.args.from c.in-Ok.tree o c.as_slice-2.result.now c.as_slice-in-Ok.ensures.value kept read
-    c.len.result (length c.expression.new.cursor.rest.now) (c.len.ensures ∙ sym c.as_slice-2.ensures.len) (sym (length-map c.expression.new.cursor.rest.now (lexeme c.expression.new.cursor.text.now)))
-    c.behind.result c.behind.ensures.later c.behind.ensures.within c.behind.ensures.next c.behind.ensures.left
 
 pub returns : goal.returns
 returns c =
-    let o = view c.expression.new.cursor in
-    let tokens = c.args.tokens.now.list.items in
-    let text = c.args.tokens.now.text.now in
-    let kept : c.as_slice-2.result.now ≡ filter is_kept (drop c.args.from tokens) = c.as_slice-2.ensures.value ∙ c.in_ok-kept.ensures ∙ ap (λ (ts : List Token). filter is_kept (drop c.args.from ts)) c.as_slice.ensures.value in
-    rw c.fault_at.ensures (front_refused exact_expression refl c.args.outer (shallow c.args.outer c.requires.outer) text tokens c.args.from c.in-Err.error o.rest (λ some.
-    subst (λ (ts : List Token). p.expression (input 0 c.args.outer (lexemes text ts)) ≡ Err (record { code = c.in-Err.error; rest = o.rest })) kept (err_of _ c.expression.result o c.in-Err.error c.in-Err.is some c.expression.ensures)))
+    finds exact_expression refl c.args.outer c.requires.outer c.args.tokens.now.text.now c.args.tokens.now.list.items c.args.from
+    c.front.result c.front.ensures

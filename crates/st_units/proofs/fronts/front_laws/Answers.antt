@@ -1,23 +1,15 @@
 use Rattle.std.proofs.Common.{refl}
 use Rattle.st_expr.proofs.Exactness.{exact_expression}
 use Rattle.st_statements.proofs.StatementExactness.{exact_statements}
-use Rattle.st_units.proofs.FrontAnswers.{one_front, one_front_fault, none_of_both}
+use Rattle.sfc_text.proofs.Forms.{form_sfc}
+use Rattle.st_units.proofs.FrontAnswers.{front_laws}
 use Rattle.st_units.proofs.fronts.front_laws.Goals as goal
 
-pub returns-clause-one_expression : goal.returns-clause-one_expression
-returns-clause-one_expression c = one_front exact_expression refl
+pub returns-clause-expressions : goal.returns-clause-expressions
+returns-clause-expressions c = front_laws exact_expression refl
 
-pub returns-clause-one_expression_fault : goal.returns-clause-one_expression_fault
-returns-clause-one_expression_fault c = one_front_fault exact_expression refl
+pub returns-clause-lists : goal.returns-clause-lists
+returns-clause-lists c = front_laws exact_statements refl
 
-pub returns-clause-no_expression_and_fault : goal.returns-clause-no_expression_and_fault
-returns-clause-no_expression_and_fault c = none_of_both exact_expression refl
-
-pub returns-clause-one_list : goal.returns-clause-one_list
-returns-clause-one_list c = one_front exact_statements refl
-
-pub returns-clause-one_list_fault : goal.returns-clause-one_list_fault
-returns-clause-one_list_fault c = one_front_fault exact_statements refl
-
-pub returns-clause-no_list_and_fault : goal.returns-clause-no_list_and_fault
-returns-clause-no_list_and_fault c = none_of_both exact_statements refl
+pub returns-clause-charts : goal.returns-clause-charts
+returns-clause-charts c = front_laws form_sfc.exact refl

@@ -1,7 +1,7 @@
 use Rattle.std.proofs.Common.{◌≡◌, ◌-◌}
 use Rattle.token_grammar.specs.Input.{view, loop}
-use Rattle.st_units.specs.Parse.{parts, more_parts, sees_file_part}
+use Rattle.st_units.specs.steps.Parse.{parts, more_parts, sees_file_part}
 use Rattle.st_units.proofs.units.parts.Given as goal
 
 abbrev pub invariant-loop-turn : goal.invariant-loop-turn
-invariant-loop-turn g l = parts g.B.Body.parser (view l.fn.cursor) ≡ loop sees_file_part (more_parts g.B.Body.parser) (l._turn-end - l._turn) l.found (view l.cursor)
+invariant-loop-turn l = parts (view l.fn.cursor) ≡ loop sees_file_part more_parts (l._turn-end - l._turn) l.found (view l.cursor)

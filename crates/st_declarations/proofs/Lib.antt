@@ -1,0 +1,5 @@
+mod Nesting
+pub mod SpecForms
+pub mod InitForms
+pub mod DeclForms
+pub mod ConfigForms

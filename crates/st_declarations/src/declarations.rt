@@ -1,0 +1,239 @@
+// Declarations of variables and their sections.
+
+ghost use Rattle.std.specs.Prelude.{◌≡◌};
+ghost use Rattle.token_grammar.specs.Input.{Reads, ReadsTo, view};
+ghost use Rattle.st_declarations.specs.steps.Parse as spec;
+
+use crate::array_specs::spec;
+use crate::initial_values::optional_init;
+use tree_items::Items;
+use st_expr::{address, name_list, node_at};
+use st_tree::{Address, Decl, Globals, Keep, Section, SectionKind};
+use std::alloc::Global;
+use token_grammar::{Cursor, ParseError, TokenKind};
+
+/// `AT address`
+#[tactic(auto, unfolding(crate::specs::steps::Parse::located))]
+fn located(alloc: Global, cursor: &mut Cursor<'_>) -> Result<Option<Address>, ParseError>
+    ensures { Reads (spec.located (view cursor.old)) result (view cursor.new) }
+{
+    cursor.take(TokenKind::At)?;
+    Ok(Some(address(alloc, cursor)?))
+}
+
+/// `[ AT address ]`
+#[tactic(auto, unfolding(crate::specs::steps::Parse::optional_address))]
+fn optional_address(alloc: Global, cursor: &mut Cursor<'_>) -> Result<Option<Address>, ParseError>
+    ensures { Reads (spec.optional_address (view cursor.old)) result (view cursor.new) }
+{
+    if cursor.sees(TokenKind::At) {
+        located(alloc, cursor)
+    } else {
+        Ok(None)
+    }
+}
+
+/// `names [ AT address ] ":" spec [ ":=" init ] ";"`
+#[tactic(auto, unfolding(crate::specs::steps::Parse::decl))]
+fn decl(alloc: Global, cursor: &mut Cursor<'_>) -> Result<Decl, ParseError>
+    ensures { Reads (spec.decl (view cursor.old)) result (view cursor.new) }
+{
+    let start = cursor.start();
+    let names = name_list(alloc, cursor)?;
+    let address = optional_address(alloc, cursor)?;
+    cursor.take(TokenKind::Colon)?;
+    let spec = spec(alloc, cursor)?;
+    let init = optional_init(alloc, cursor)?;
+    cursor.take(TokenKind::Semicolon)?;
+    Ok(Decl {
+        node: node_at(start, cursor.last),
+        names,
+        address,
+        spec,
+        init,
+    })
+}
+
+#[tactic(auto, unfolding(crate::specs::steps::Parse::more_decls))]
+fn more_decls(
+    alloc: Global,
+    cursor: &mut Cursor<'_>,
+    found: &mut Items<Decl>,
+) -> Result<(), ParseError>
+    ensures { ReadsTo (spec.more_decls found.old (view cursor.old)) result found.new (view cursor.new) }
+{
+    found.push(decl(alloc, cursor)?)?;
+    Ok(())
+}
+
+/// `{ decl }`
+#[tactic(auto, unfolding(crate::specs::steps::Parse::decls))]
+fn decls(alloc: Global, cursor: &mut Cursor<'_>) -> Result<Items<Decl>, ParseError>
+    ensures { Reads (spec.decls (view cursor.old)) result (view cursor.new) }
+{
+    let mut found = Items::new(alloc);
+    for _turn in 0..cursor.rest.len() {
+        if !cursor.sees(TokenKind::Name) {
+            return Ok(found);
+        }
+        more_decls(alloc, cursor, &mut found)?;
+    }
+    Ok(found)
+}
+
+#[tactic(auto, unfolding(crate::specs::steps::Parse::keep_as))]
+fn keep_as(cursor: &mut Cursor<'_>, kind: TokenKind, keep: Keep) -> Result<Option<Keep>, ParseError>
+    ensures { Reads (spec.keep_as kind keep (view cursor.old)) result (view cursor.new) }
+{
+    cursor.take(kind)?;
+    Ok(Some(keep))
+}
+
+/// `[ CONSTANT | RETAIN | NON_RETAIN ]`
+#[tactic(auto, unfolding(crate::specs::steps::Parse::keep))]
+fn keep(cursor: &mut Cursor<'_>) -> Result<Option<Keep>, ParseError>
+    ensures { Reads (spec.keep (view cursor.old)) result (view cursor.new) }
+{
+    if cursor.sees(TokenKind::Constant) {
+        keep_as(cursor, TokenKind::Constant, Keep::Constant)
+    } else if cursor.sees(TokenKind::Retain) {
+        keep_as(cursor, TokenKind::Retain, Keep::Retain)
+    } else if cursor.sees(TokenKind::NonRetain) {
+        keep_as(cursor, TokenKind::NonRetain, Keep::NonRetain)
+    } else {
+        Ok(None)
+    }
+}
+
+#[tactic(auto, unfolding(crate::specs::steps::Parse::section_as))]
+fn section_as(
+    cursor: &mut Cursor<'_>,
+    kind: TokenKind,
+    section: SectionKind,
+) -> Result<SectionKind, ParseError>
+    ensures { Reads (spec.section_as kind section (view cursor.old)) result (view cursor.new) }
+{
+    cursor.take(kind)?;
+    Ok(section)
+}
+
+/// `VAR | VAR_INPUT | VAR_OUTPUT | VAR_IN_OUT | VAR_EXTERNAL | VAR_TEMP`
+#[tactic(auto, unfolding(crate::specs::steps::Parse::section_word))]
+fn section_word(cursor: &mut Cursor<'_>) -> Result<SectionKind, ParseError>
+    ensures { Reads (spec.section_word (view cursor.old)) result (view cursor.new) }
+{
+    if cursor.sees(TokenKind::Var) {
+        section_as(cursor, TokenKind::Var, SectionKind::Var)
+    } else if cursor.sees(TokenKind::VarInput) {
+        section_as(cursor, TokenKind::VarInput, SectionKind::Input)
+    } else if cursor.sees(TokenKind::VarOutput) {
+        section_as(cursor, TokenKind::VarOutput, SectionKind::Output)
+    } else if cursor.sees(TokenKind::VarInOut) {
+        section_as(cursor, TokenKind::VarInOut, SectionKind::InOut)
+    } else if cursor.sees(TokenKind::VarExternal) {
+        section_as(cursor, TokenKind::VarExternal, SectionKind::External)
+    } else {
+        section_as(cursor, TokenKind::VarTemp, SectionKind::Temp)
+    }
+}
+
+/// Whether a section comes next.
+#[tactic(auto, unfolding(crate::specs::steps::Parse::sees_section))]
+fn sees_section(cursor: &Cursor<'_>) -> bool
+    ensures { result ≡ spec.sees_section (view cursor.now).rest }
+{
+    cursor.sees(TokenKind::Var)
+        || (cursor.sees(TokenKind::VarInput)
+            || (cursor.sees(TokenKind::VarOutput)
+                || (cursor.sees(TokenKind::VarInOut)
+                    || (cursor.sees(TokenKind::VarExternal) || cursor.sees(TokenKind::VarTemp)))))
+}
+
+/// `section_word [ keep ] { decl } END_VAR`
+#[tactic(auto, unfolding(crate::specs::steps::Parse::section))]
+fn section(alloc: Global, cursor: &mut Cursor<'_>) -> Result<Section, ParseError>
+    ensures { Reads (spec.section (view cursor.old)) result (view cursor.new) }
+{
+    let start = cursor.start();
+    let kind = section_word(cursor)?;
+    let keep = keep(cursor)?;
+    let decls = decls(alloc, cursor)?;
+    cursor.take(TokenKind::EndVar)?;
+    Ok(Section {
+        node: node_at(start, cursor.last),
+        kind,
+        keep,
+        decls,
+    })
+}
+
+#[tactic(auto, unfolding(crate::specs::steps::Parse::more_sections))]
+fn more_sections(
+    alloc: Global,
+    cursor: &mut Cursor<'_>,
+    found: &mut Items<Section>,
+) -> Result<(), ParseError>
+    ensures { ReadsTo (spec.more_sections found.old (view cursor.old)) result found.new (view cursor.new) }
+{
+    found.push(section(alloc, cursor)?)?;
+    Ok(())
+}
+
+/// `{ section }`
+#[tactic(auto, unfolding(crate::specs::steps::Parse::sections))]
+pub fn sections(alloc: Global, cursor: &mut Cursor<'_>) -> Result<Items<Section>, ParseError>
+    ensures { Reads (spec.sections (view cursor.old)) result (view cursor.new) }
+{
+    let mut found = Items::new(alloc);
+    for _turn in 0..cursor.rest.len() {
+        if !sees_section(cursor) {
+            return Ok(found);
+        }
+        more_sections(alloc, cursor, &mut found)?;
+    }
+    Ok(found)
+}
+
+/// `VAR_GLOBAL [ keep ] { decl } END_VAR`
+#[tactic(auto, unfolding(crate::specs::steps::Parse::globals))]
+pub fn globals(alloc: Global, cursor: &mut Cursor<'_>) -> Result<Globals, ParseError>
+    ensures { Reads (spec.globals (view cursor.old)) result (view cursor.new) }
+{
+    let start = cursor.start();
+    cursor.take(TokenKind::VarGlobal)?;
+    let keep = keep(cursor)?;
+    let decls = decls(alloc, cursor)?;
+    cursor.take(TokenKind::EndVar)?;
+    Ok(Globals {
+        node: node_at(start, cursor.last),
+        keep,
+        decls,
+    })
+}
+
+#[tactic(auto, unfolding(crate::specs::steps::Parse::more_globals))]
+fn more_globals(
+    alloc: Global,
+    cursor: &mut Cursor<'_>,
+    found: &mut Items<Globals>,
+) -> Result<(), ParseError>
+    ensures { ReadsTo (spec.more_globals found.old (view cursor.old)) result found.new (view cursor.new) }
+{
+    found.push(globals(alloc, cursor)?)?;
+    Ok(())
+}
+
+/// `{ globals }`
+#[tactic(auto, unfolding(crate::specs::steps::Parse::globals_list))]
+pub fn globals_list(alloc: Global, cursor: &mut Cursor<'_>) -> Result<Items<Globals>, ParseError>
+    ensures { Reads (spec.globals_list (view cursor.old)) result (view cursor.new) }
+{
+    let mut found = Items::new(alloc);
+    for _turn in 0..cursor.rest.len() {
+        if !cursor.sees(TokenKind::VarGlobal) {
+            return Ok(found);
+        }
+        more_globals(alloc, cursor, &mut found)?;
+    }
+    Ok(found)
+}

@@ -1,0 +1,243 @@
+// Initial values. A value within another's brackets takes its parser as a parameter, so that each rule is proved by itself.
+
+ghost use Rattle.std.specs.Prelude.{◌≡◌};
+ghost use Rattle.token_grammar.specs.Input.{Reads, ReadsTo, sees_two, sees_three, view};
+ghost use Rattle.token_grammar.specs.declared.token.TokenKind.TheVariants as kind;
+ghost use Rattle.st_declarations.specs.steps.Parse as spec;
+ghost use Rattle.st_declarations.specs.steps.Nests.{Nests};
+
+use tree_items::Items;
+use st_expr::{expression, identifier, node_at, word};
+use st_tree::{FieldInit, Init, Item};
+use std::alloc::Global;
+use token_grammar::{Cursor, ParseError, TokenKind};
+
+/// What initial values are read with.
+#[derive(Clone, Copy)]
+struct Values<F> {
+    alloc: Global,
+    /// How deep initial values may still nest.
+    nest: usize,
+    /// The parser of the values within.
+    init: F,
+}
+
+/// Whether a number and `(` come next.
+fn sees_repeated(cursor: &Cursor<'_>) -> bool
+    ensures { result ≡ sees_two kind.Number kind.OpenParenthesis (view cursor.now).rest }
+{
+    cursor.sees(TokenKind::Number) && cursor.sees_second(TokenKind::OpenParenthesis)
+}
+
+/// Whether `(`, a name and `:=` come next.
+fn sees_structure(cursor: &Cursor<'_>) -> bool
+    ensures { result ≡ sees_three kind.OpenParenthesis kind.Name kind.Becomes (view cursor.now).rest }
+{
+    cursor.sees(TokenKind::OpenParenthesis)
+        && (cursor.sees_second(TokenKind::Name) && cursor.sees_third(TokenKind::Becomes))
+}
+
+impl<F: Fn(Global, &mut Cursor<'_>, usize) -> Result<Init, ParseError>> Values<F> {
+    /// An initial value within another.
+    fn value(&self, cursor: &mut Cursor<'_>) -> Result<Init, ParseError>
+        requires { Nests spec.init_within self.now.nest (F.pre self.now.init) (F.post self.now.init) }
+        ensures { Reads (spec.init_within self.now.nest (view cursor.old)) result (view cursor.new) }
+    {
+        (self.init)(self.alloc, cursor, self.nest)
+    }
+
+    /// `number "(" init ")"`
+    #[tactic(auto, unfolding(crate::specs::steps::Parse::repeated_item))]
+    fn repeated_item(&self, cursor: &mut Cursor<'_>) -> Result<Item, ParseError>
+        requires { Nests spec.init_within self.now.nest (F.pre self.now.init) (F.post self.now.init) }
+        ensures { Reads (spec.repeated_item (spec.init_within self.now.nest) (view cursor.old)) result (view cursor.new) }
+    {
+        let start = cursor.start();
+        let count = word(self.alloc, cursor, TokenKind::Number)?;
+        let depth = cursor.depth;
+        cursor.enter(TokenKind::OpenParenthesis)?;
+        let value = self.value(cursor)?;
+        cursor.take(TokenKind::CloseParenthesis)?;
+        cursor.depth = depth;
+        Ok(Item::Repeated(node_at(start, cursor.last), count, value))
+    }
+
+    /// `init | number "(" init ")"`
+    #[tactic(auto, unfolding(crate::specs::steps::Parse::one_item))]
+    fn one_item(&self, cursor: &mut Cursor<'_>) -> Result<Item, ParseError>
+        requires { Nests spec.init_within self.now.nest (F.pre self.now.init) (F.post self.now.init) }
+        ensures { Reads (spec.one_item (spec.init_within self.now.nest) (view cursor.old)) result (view cursor.new) }
+    {
+        if sees_repeated(cursor) {
+            self.repeated_item(cursor)
+        } else {
+            Ok(Item::One(self.value(cursor)?))
+        }
+    }
+
+    /// `"," item`
+    #[tactic(auto, unfolding(crate::specs::steps::Parse::more_items))]
+    fn more_items(&self, cursor: &mut Cursor<'_>, found: &mut Items<Item>) -> Result<(), ParseError>
+        requires { Nests spec.init_within self.now.nest (F.pre self.now.init) (F.post self.now.init) }
+        ensures { ReadsTo (spec.more_items (spec.init_within self.now.nest) found.old (view cursor.old)) result found.new (view cursor.new) }
+    {
+        cursor.take(TokenKind::Comma)?;
+        found.push(self.one_item(cursor)?)?;
+        Ok(())
+    }
+
+    /// `item { "," item }`
+    #[tactic(auto, unfolding(crate::specs::steps::Parse::item_list))]
+    fn item_list(&self, cursor: &mut Cursor<'_>) -> Result<Items<Item>, ParseError>
+        requires { Nests spec.init_within self.now.nest (F.pre self.now.init) (F.post self.now.init) }
+        ensures { Reads (spec.item_list (spec.init_within self.now.nest) (view cursor.old)) result (view cursor.new) }
+    {
+        let mut found = Items::new(self.alloc);
+        found.push(self.one_item(cursor)?)?;
+        for _turn in 0..cursor.rest.len() {
+            if !cursor.sees(TokenKind::Comma) {
+                return Ok(found);
+            }
+            self.more_items(cursor, &mut found)?;
+        }
+        Ok(found)
+    }
+
+    /// `"[" item { "," item } "]"`
+    #[tactic(auto, unfolding(crate::specs::steps::Parse::elements))]
+    fn elements(&self, cursor: &mut Cursor<'_>) -> Result<Init, ParseError>
+        requires { Nests spec.init_within self.now.nest (F.pre self.now.init) (F.post self.now.init) }
+        ensures { Reads (spec.elements (spec.init_within self.now.nest) (view cursor.old)) result (view cursor.new) }
+    {
+        let start = cursor.start();
+        let depth = cursor.depth;
+        cursor.enter(TokenKind::OpenBracket)?;
+        let found = self.item_list(cursor)?;
+        cursor.take(TokenKind::CloseBracket)?;
+        cursor.depth = depth;
+        Ok(Init::Array(node_at(start, cursor.last), found))
+    }
+
+    /// `name ":=" init`
+    #[tactic(auto, unfolding(crate::specs::steps::Parse::field_init))]
+    fn field_init(&self, cursor: &mut Cursor<'_>) -> Result<FieldInit, ParseError>
+        requires { Nests spec.init_within self.now.nest (F.pre self.now.init) (F.post self.now.init) }
+        ensures { Reads (spec.field_init (spec.init_within self.now.nest) (view cursor.old)) result (view cursor.new) }
+    {
+        let start = cursor.start();
+        let name = identifier(self.alloc, cursor)?;
+        cursor.take(TokenKind::Becomes)?;
+        let value = self.value(cursor)?;
+        Ok(FieldInit {
+            node: node_at(start, cursor.last),
+            name,
+            value,
+        })
+    }
+
+    /// `"," name ":=" init`
+    #[tactic(auto, unfolding(crate::specs::steps::Parse::more_field_inits))]
+    fn more_field_inits(
+        &self,
+        cursor: &mut Cursor<'_>,
+        found: &mut Items<FieldInit>,
+    ) -> Result<(), ParseError>
+        requires { Nests spec.init_within self.now.nest (F.pre self.now.init) (F.post self.now.init) }
+        ensures { ReadsTo (spec.more_field_inits (spec.init_within self.now.nest) found.old (view cursor.old)) result found.new (view cursor.new) }
+    {
+        cursor.take(TokenKind::Comma)?;
+        found.push(self.field_init(cursor)?)?;
+        Ok(())
+    }
+
+    /// `name ":=" init { "," name ":=" init }`
+    #[tactic(auto, unfolding(crate::specs::steps::Parse::field_list))]
+    fn field_list(&self, cursor: &mut Cursor<'_>) -> Result<Items<FieldInit>, ParseError>
+        requires { Nests spec.init_within self.now.nest (F.pre self.now.init) (F.post self.now.init) }
+        ensures { Reads (spec.field_list (spec.init_within self.now.nest) (view cursor.old)) result (view cursor.new) }
+    {
+        let mut found = Items::new(self.alloc);
+        found.push(self.field_init(cursor)?)?;
+        for _turn in 0..cursor.rest.len() {
+            if !cursor.sees(TokenKind::Comma) {
+                return Ok(found);
+            }
+            self.more_field_inits(cursor, &mut found)?;
+        }
+        Ok(found)
+    }
+
+    /// `"(" name ":=" init { "," name ":=" init } ")"`
+    #[tactic(auto, unfolding(crate::specs::steps::Parse::structure))]
+    fn structure(&self, cursor: &mut Cursor<'_>) -> Result<Init, ParseError>
+        requires { Nests spec.init_within self.now.nest (F.pre self.now.init) (F.post self.now.init) }
+        ensures { Reads (spec.structure (spec.init_within self.now.nest) (view cursor.old)) result (view cursor.new) }
+    {
+        let start = cursor.start();
+        let depth = cursor.depth;
+        cursor.enter(TokenKind::OpenParenthesis)?;
+        let found = self.field_list(cursor)?;
+        cursor.take(TokenKind::CloseParenthesis)?;
+        cursor.depth = depth;
+        Ok(Init::Structure(node_at(start, cursor.last), found))
+    }
+
+    /// `expr | "[" item { "," item } "]" | "(" name ":=" init { "," name ":=" init } ")"`
+    #[tactic(auto, unfolding(crate::specs::steps::Parse::any_init))]
+    fn any_init(&self, cursor: &mut Cursor<'_>) -> Result<Init, ParseError>
+        requires { Nests spec.init_within self.now.nest (F.pre self.now.init) (F.post self.now.init) }
+        ensures { Reads (spec.any_init (spec.init_within self.now.nest) (view cursor.old)) result (view cursor.new) }
+    {
+        if cursor.sees(TokenKind::OpenBracket) {
+            self.elements(cursor)
+        } else if sees_structure(cursor) {
+            self.structure(cursor)
+        } else {
+            Ok(Init::Value(expression(self.alloc, cursor)?))
+        }
+    }
+}
+
+/// An initial value in which initial values nest less deep than the number.
+fn init_at(alloc: Global, cursor: &mut Cursor<'_>, nest: usize) -> Result<Init, ParseError>
+    ensures { Reads (spec.init_within nest (view cursor.old)) result (view cursor.new) }
+{
+    if nest == 0 {
+        return Err(ParseError::TooDeep);
+    }
+    Values {
+        alloc,
+        nest: nest - 1,
+        init: init_at,
+    }
+    .any_init(cursor)
+}
+
+/// An initial value.
+#[tactic(auto, unfolding(crate::specs::steps::Parse::initial))]
+pub fn initial(alloc: Global, cursor: &mut Cursor<'_>) -> Result<Init, ParseError>
+    ensures { Reads (spec.initial (view cursor.old)) result (view cursor.new) }
+{
+    init_at(alloc, cursor, 257)
+}
+
+/// `":=" init`
+#[tactic(auto, unfolding(crate::specs::steps::Parse::becomes))]
+fn becomes(alloc: Global, cursor: &mut Cursor<'_>) -> Result<Option<Init>, ParseError>
+    ensures { Reads (spec.becomes (view cursor.old)) result (view cursor.new) }
+{
+    cursor.take(TokenKind::Becomes)?;
+    Ok(Some(initial(alloc, cursor)?))
+}
+
+/// `[ ":=" init ]`
+#[tactic(auto, unfolding(crate::specs::steps::Parse::optional_init))]
+pub fn optional_init(alloc: Global, cursor: &mut Cursor<'_>) -> Result<Option<Init>, ParseError>
+    ensures { Reads (spec.optional_init (view cursor.old)) result (view cursor.new) }
+{
+    if cursor.sees(TokenKind::Becomes) {
+        becomes(alloc, cursor)
+    } else {
+        Ok(None)
+    }
+}

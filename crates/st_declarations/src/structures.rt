@@ -1,0 +1,144 @@
+// Types that a user declares.
+
+ghost use Rattle.std.specs.Prelude.{◌≡◌};
+ghost use Rattle.token_grammar.specs.Input.{Reads, ReadsTo, view};
+ghost use Rattle.st_declarations.specs.steps.Parse as spec;
+
+use crate::array_specs::spec;
+use crate::initial_values::optional_init;
+use tree_items::Items;
+use st_expr::{identifier, name_list, node_at};
+use st_tree::{Fields, Shape, TypeDecl, Types};
+use std::alloc::Global;
+use token_grammar::{Cursor, ParseError, TokenKind};
+
+/// `names ":" spec [ ":=" init ] ";"`
+#[tactic(auto, unfolding(crate::specs::steps::Parse::fields))]
+fn fields(alloc: Global, cursor: &mut Cursor<'_>) -> Result<Fields, ParseError>
+    ensures { Reads (spec.fields (view cursor.old)) result (view cursor.new) }
+{
+    let start = cursor.start();
+    let names = name_list(alloc, cursor)?;
+    cursor.take(TokenKind::Colon)?;
+    let spec = spec(alloc, cursor)?;
+    let init = optional_init(alloc, cursor)?;
+    cursor.take(TokenKind::Semicolon)?;
+    Ok(Fields {
+        node: node_at(start, cursor.last),
+        names,
+        spec,
+        init,
+    })
+}
+
+#[tactic(auto, unfolding(crate::specs::steps::Parse::more_fields))]
+fn more_fields(
+    alloc: Global,
+    cursor: &mut Cursor<'_>,
+    found: &mut Items<Fields>,
+) -> Result<(), ParseError>
+    ensures { ReadsTo (spec.more_fields found.old (view cursor.old)) result found.new (view cursor.new) }
+{
+    found.push(fields(alloc, cursor)?)?;
+    Ok(())
+}
+
+/// `{ fields }`
+#[tactic(auto, unfolding(crate::specs::steps::Parse::fields_list))]
+fn fields_list(alloc: Global, cursor: &mut Cursor<'_>) -> Result<Items<Fields>, ParseError>
+    ensures { Reads (spec.fields_list (view cursor.old)) result (view cursor.new) }
+{
+    let mut found = Items::new(alloc);
+    for _turn in 0..cursor.rest.len() {
+        if !cursor.sees(TokenKind::Name) {
+            return Ok(found);
+        }
+        more_fields(alloc, cursor, &mut found)?;
+    }
+    Ok(found)
+}
+
+/// `STRUCT { fields } END_STRUCT`
+#[tactic(auto, unfolding(crate::specs::steps::Parse::struct_shape))]
+fn struct_shape(alloc: Global, cursor: &mut Cursor<'_>) -> Result<Shape, ParseError>
+    ensures { Reads (spec.struct_shape (view cursor.old)) result (view cursor.new) }
+{
+    let start = cursor.start();
+    cursor.take(TokenKind::Struct)?;
+    let found = fields_list(alloc, cursor)?;
+    cursor.take(TokenKind::EndStruct)?;
+    Ok(Shape::Structure(node_at(start, cursor.last), found))
+}
+
+/// `spec | STRUCT { fields } END_STRUCT`
+#[tactic(auto, unfolding(crate::specs::steps::Parse::shape))]
+fn shape(alloc: Global, cursor: &mut Cursor<'_>) -> Result<Shape, ParseError>
+    ensures { Reads (spec.shape (view cursor.old)) result (view cursor.new) }
+{
+    if cursor.sees(TokenKind::Struct) {
+        struct_shape(alloc, cursor)
+    } else {
+        Ok(Shape::Spec(spec(alloc, cursor)?))
+    }
+}
+
+/// `name ":" shape [ ":=" init ] ";"`
+#[tactic(auto, unfolding(crate::specs::steps::Parse::type_decl))]
+fn type_decl(alloc: Global, cursor: &mut Cursor<'_>) -> Result<TypeDecl, ParseError>
+    ensures { Reads (spec.type_decl (view cursor.old)) result (view cursor.new) }
+{
+    let start = cursor.start();
+    let name = identifier(alloc, cursor)?;
+    cursor.take(TokenKind::Colon)?;
+    let shape = shape(alloc, cursor)?;
+    let init = optional_init(alloc, cursor)?;
+    cursor.take(TokenKind::Semicolon)?;
+    Ok(TypeDecl {
+        node: node_at(start, cursor.last),
+        name,
+        shape,
+        init,
+    })
+}
+
+#[tactic(auto, unfolding(crate::specs::steps::Parse::more_type_decls))]
+fn more_type_decls(
+    alloc: Global,
+    cursor: &mut Cursor<'_>,
+    found: &mut Items<TypeDecl>,
+) -> Result<(), ParseError>
+    ensures { ReadsTo (spec.more_type_decls found.old (view cursor.old)) result found.new (view cursor.new) }
+{
+    found.push(type_decl(alloc, cursor)?)?;
+    Ok(())
+}
+
+/// `{ name ":" shape [ ":=" init ] ";" }`
+#[tactic(auto, unfolding(crate::specs::steps::Parse::type_decls))]
+fn type_decls(alloc: Global, cursor: &mut Cursor<'_>) -> Result<Items<TypeDecl>, ParseError>
+    ensures { Reads (spec.type_decls (view cursor.old)) result (view cursor.new) }
+{
+    let mut found = Items::new(alloc);
+    for _turn in 0..cursor.rest.len() {
+        if !cursor.sees(TokenKind::Name) {
+            return Ok(found);
+        }
+        more_type_decls(alloc, cursor, &mut found)?;
+    }
+    Ok(found)
+}
+
+/// `TYPE { name ":" shape [ ":=" init ] ";" } END_TYPE`
+#[tactic(auto, unfolding(crate::specs::steps::Parse::types))]
+pub fn types(alloc: Global, cursor: &mut Cursor<'_>) -> Result<Types, ParseError>
+    ensures { Reads (spec.types (view cursor.old)) result (view cursor.new) }
+{
+    let start = cursor.start();
+    cursor.take(TokenKind::Type)?;
+    let decls = type_decls(alloc, cursor)?;
+    cursor.take(TokenKind::EndType)?;
+    Ok(Types {
+        node: node_at(start, cursor.last),
+        decls,
+    })
+}
