@@ -134,7 +134,7 @@ filled_nested zero = record { some = λ d w x e l. absurd l }
 filled_nested (suc n) = filled_scoped (filled_level (g.nested n) 7)
 
 pub filled_expression : Filled g.expression
-filled_expression = record { some = λ d w x e (n, l). (filled_nested (258 + n)).some d w x e l }
+filled_expression = record { some = λ d w x e (n, l). (filled_nested n).some d w x e l }
 
 -- ---- words one behind the other
 
@@ -299,4 +299,4 @@ module _ {M : Type 0} {P : Word → List M → Type 0} {G : Gathering P} (E : Ex
   nested (suc n) = lists_scoped G (level (g.nested n) (filled_nested n) (nested n) 7)
 
   pub expression : Lists P E.of_expr g.expression
-  expression = record { holds = λ d w x e (n, l). (nested (258 + n)).holds d w x e l }
+  expression = record { holds = λ d w x e (n, l). (nested n).holds d w x e l }

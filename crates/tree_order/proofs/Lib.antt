@@ -7,3 +7,5 @@ mod UnitLists
 mod NodesOfWords
 mod NodeInstances
 mod FileInstances
+mod TokenPlaces
+mod Merging

@@ -33,8 +33,24 @@ abbrev pub AreNested : List Node → Type 0
 AreNested [] = Unit {0}
 AreNested (n ∷ ns) = PrecedesAll n ns × AreNested ns
 
+-- A lexeme of the word starts there.
+abbrev pub Starts : Word → ℕ → Type 0
+Starts [] place = ⊥
+Starts (p ∷ w) place = (p.0.start ≡ place) ⊎ Starts w place
+
+-- A lexeme of the word ends there.
+abbrev pub Ends : Word → ℕ → Type 0
+Ends [] place = ⊥
+Ends (p ∷ w) place = (p.0.end ≡ place) ⊎ Ends w place
+
+-- Each node starts where a lexeme does, and ends where a lexeme does.
+abbrev pub AreOf : Word → List Node → Type 0
+AreOf w [] = Unit {0}
+AreOf w (n ∷ ns) = Starts w n.start × Ends w n.end × AreOf w ns
+
 pub record AreOrdered (w : Word) (ns : List Node) : Type 0 where
   pub ordered : (lo hi : ℕ) → Spans lo w hi → AreInside lo hi ns × AreNested ns
+  pub lexemes : AreOf w ns
 
 -- ---- words
 
@@ -77,13 +93,49 @@ nested_append lo mid hi [] ms h k a b = b
 nested_append lo mid hi (n ∷ ns) ms h k a b =
     (precedes_append n ns ms a.0 (precedes_behind mid hi n ms h.0.2 k), nested_append lo mid hi ns ms h.1 k a.1 b)
 
+-- ---- the lexemes with which nodes start and end
+
+starts_left : (u v : Word) (place : ℕ) → Starts u place → Starts (u ++ v) place
+starts_left [] v place h = absurd h
+starts_left (p ∷ u) v place (inl is) = inl is
+starts_left (p ∷ u) v place (inr h) = inr (starts_left u v place h)
+
+starts_right : (u v : Word) (place : ℕ) → Starts v place → Starts (u ++ v) place
+starts_right [] v place h = h
+starts_right (p ∷ u) v place h = inr (starts_right u v place h)
+
+ends_left : (u v : Word) (place : ℕ) → Ends u place → Ends (u ++ v) place
+ends_left [] v place h = absurd h
+ends_left (p ∷ u) v place (inl is) = inl is
+ends_left (p ∷ u) v place (inr h) = inr (ends_left u v place h)
+
+ends_right : (u v : Word) (place : ℕ) → Ends v place → Ends (u ++ v) place
+ends_right [] v place h = h
+ends_right (p ∷ u) v place h = inr (ends_right u v place h)
+
+ends_last : (p : Lexeme × ℕ) (w : Word) → Ends (p ∷ w) (end_of (p ∷ w))
+ends_last p [] = inl refl
+ends_last p (q ∷ w) = inr (ends_last q w)
+
+of_left : (u v : Word) (ns : List Node) → AreOf u ns → AreOf (u ++ v) ns
+of_left u v [] h = tt
+of_left u v (n ∷ ns) h = (starts_left u v n.start h.0, ends_left u v n.end h.1, of_left u v ns h.2)
+
+of_right : (u v : Word) (ns : List Node) → AreOf v ns → AreOf (u ++ v) ns
+of_right u v [] h = tt
+of_right u v (n ∷ ns) h = (starts_right u v n.start h.0, ends_right u v n.end h.1, of_right u v ns h.2)
+
+of_append : (w : Word) (ns ms : List Node) → AreOf w ns → AreOf w ms → AreOf w (ns ++ ms)
+of_append w [] ms h k = k
+of_append w (n ∷ ns) ms h k = (h.0, h.1, of_append w ns ms h.2 k)
+
 -- ---- what is gathered
 
 pub nothing : AreOrdered [] []
-nothing = record { ordered = λ lo hi s. (tt, tt) }
+nothing = record { ordered = λ lo hi s. (tt, tt); lexemes = tt }
 
 pub one : (p : Lexeme × ℕ) → AreOrdered (p ∷ []) []
-one p = record { ordered = λ lo hi s. (tt, tt) }
+one p = record { ordered = λ lo hi s. (tt, tt); lexemes = tt }
 
 pub both : (u v : Word) (ms ns : List Node) → AreOrdered u ms → AreOrdered v ns → AreOrdered (u ++ v) (ms ++ ns)
 both u v ms ns h k = record {
@@ -95,6 +147,7 @@ both u v ms ns h k = record {
       let high : parts.0 ≤ hi = spans_rises parts.0 v hi parts.2 in
       (inside_append lo hi ms ns (inside_wider lo parts.0 lo hi ms (omega arith) high front.0) (inside_wider parts.0 hi lo hi ns low (omega arith) back.0),
       nested_append lo parts.0 hi ms ns front.0 back.0 front.1 back.1);
+  lexemes = of_append (u ++ v) ms ns (of_left u v ms h.lexemes) (of_right u v ns k.lexemes);
 }
 
 pub whole : (w : Word) (ms : List Node) → (w ≡ [] → ⊥) → AreOrdered w ms → AreOrdered w (node_at (start_of w) (end_of w) ∷ ms)
@@ -107,6 +160,7 @@ whole (p ∷ w) ms some h = record {
       let from : lo ≤ p.0.start = s.0 in
       let to : end_of (p ∷ w) ≤ hi = all.1 in
       (((from, omega (arith, s.1), to), inside_wider p.0.start (end_of (p ∷ w)) lo hi ms from to inner.0), (precedes_within (node_at p.0.start (end_of (p ∷ w))) ms inner.0, inner.1));
+  lexemes = (inl refl, ends_last p w, h.lexemes);
 }
 
 -- the node alone is gathered, and nothing of a text
