@@ -25,7 +25,10 @@ and_false false = refl
 pub too_great : (value : ℕ) (digits : List ℕ) → 32767 < value → short_from value digits ≡ false
 too_great value digits lt =
     let more : 32767 < worth value digits = omega (arith, lt, worth_grows value digits) in
-    ap (λ (v : Bool). list_all is_decimal digits && v) (leb_not (worth value digits) 32767 (leb (worth value digits) 32767) refl more) ∙ and_false (list_all is_decimal digits)
+    ap (λ (v : Bool). list_all is_decimal digits && v)
+    (leb_not (worth value digits) 32767 (leb (worth value digits) 32767) refl more)
+    ∙ and_false (list_all is_decimal digits)
 
-pub one_digit : (value d : ℕ) (ds : List ℕ) → is_decimal d ≡ true → short_from value (d ∷ ds) ≡ short_from (value * 10 + (d - 48)) ds
+pub one_digit : (value d : ℕ) (ds : List ℕ) → is_decimal d ≡ true → short_from value (d ∷ ds)
+    ≡ short_from (value * 10 + (d - 48)) ds
 one_digit value d ds is = rw is refl

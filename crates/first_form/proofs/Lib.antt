@@ -1,18 +1,12 @@
--- That parts of numbered nodes are numbered: Parts. What holds of rules and of functions on lexemes that read them exactly: laws.
-pub mod laws
+-- That parts of numbered nodes are numbered: Parts. That the numbers determine a tree: OneTree. The
+-- steps of the code: Counting, Known, Made, Chains,
+-- Digits, Units. What holds of the form: Sound.
 pub mod Parts
-pub mod Known
-pub mod Ahead
-pub mod Trees
-pub mod Counting
-pub mod Turns
-pub mod Begun
-pub mod Whole
-pub mod Fresh
-pub mod Exactness
-pub mod Flat
-pub mod Found
 pub mod OneTree
-pub mod Spelled
-mod Digits
-mod Short
+pub mod Counting
+pub mod Known
+pub mod Made
+pub mod Chains
+pub mod Digits
+pub mod Units
+pub mod Sound

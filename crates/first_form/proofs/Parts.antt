@@ -7,7 +7,8 @@ pub counts_left : (n : ℕ) (xs ys : List Node) → CountsFrom n (xs ++ ys) → 
 counts_left n [] ys h = tt
 counts_left n (x ∷ xs) ys h = (h.0, counts_left (suc n) xs ys h.1)
 
-pub counts_right : (n : ℕ) (xs ys : List Node) → CountsFrom n (xs ++ ys) → CountsFrom (n + length xs) ys
+pub counts_right : (n : ℕ) (xs ys : List Node) → CountsFrom n (xs ++ ys)
+    → CountsFrom (n + length xs) ys
 counts_right n [] ys h = subst (λ m. CountsFrom m ys) (sym (add-zero n)) h
 counts_right n (x ∷ xs) ys h =
     let e : suc n + length xs ≡ n + length (x ∷ xs) = omega arith in

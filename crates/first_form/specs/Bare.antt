@@ -1,4 +1,5 @@
--- A unit with each node's number set to 0: what is spelled, before the nodes are numbered. Source: this profile. The code numbers nodes as
+-- A unit with each node's number set to 0: what is spelled, before the nodes are numbered. Source:
+-- this profile. The code numbers nodes as
 -- it reads.
 use Rattle.std.specs.Prelude.{ℕ, map}
 use Rattle.st_tree.specs.declared.node.Node.{Node}
@@ -28,7 +29,8 @@ bare_path path = record { node = bare_node path.node; root = bare_identifier pat
 abbrev pub bare_expr : Expr → Expr
 bare_expr (expr.Number node literal) = expr.Number (bare_node node) literal
 bare_expr (expr.Variable path) = expr.Variable (bare_path path)
-bare_expr (expr.Binary' node operator l (more_of-Expr left end_of-Expr) r (more_of-Expr right end_of-Expr)) =
+bare_expr (expr.Binary' node operator l (more_of-Expr left end_of-Expr) r
+    (more_of-Expr right end_of-Expr)) =
     expr.Binary (bare_node node) operator (bare_expr left) (bare_expr right)
 
 abbrev pub bare_stmt : Stmt → Stmt
@@ -38,7 +40,12 @@ abbrev pub bare_spec : Spec → Spec
 bare_spec spec = record { node = bare_node spec.node; elem = spec.elem }
 
 abbrev pub bare_decl : Decl → Decl
-bare_decl decl = record { node = bare_node decl.node; names = map bare_identifier decl.names; spec = bare_spec decl.spec }
+bare_decl decl = record {
+  node = bare_node decl.node;
+  names = map bare_identifier decl.names;
+  spec =
+      bare_spec decl.spec;
+}
 
 abbrev pub bare_section : Section → Section
 bare_section section = record { node = bare_node section.node; decls = map bare_decl section.decls }

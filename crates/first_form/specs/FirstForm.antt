@@ -1,30 +1,53 @@
--- The grammar of the first form: one program of INT variables with assignments of sums. Source: the textual grammar of the standard,
--- narrowed to this form:
+-- The first form: files of one program of INT variables with assignments of sums. Source: this
+-- profile. Of the trees of the textual grammar it has those with these parts:
 --
---     file    = PROGRAM name [ VAR { decl } END_VAR ] { stmt } END_PROGRAM
---     decl    = name { "," name } ":" INT ";"
---     stmt    = path ":=" sum ";"
---     sum     = term { ( "+" | "-" ) term }
---     term    = path | [ "-" ] number
---     path    = name
+--     file         one PROGRAM, and no types, globals or configurations
+--     program      one section at most, and statements
+--     section      VAR, without CONSTANT, RETAIN or NON_RETAIN
+--     declaration  names of the type INT, without an address, a range or an initial value; no name
+--                  is declared twice
+--     statement    an assignment of a sum to a declared name
+--     sum          operands joined by + and -, grouped to the left
+--     operand      a declared name, or decimal digits of a value up to 32767, a minus directly
+--                  before them taken in
 --
--- A name is declared once, and a path names a declared variable. A minus where a term begins is part of the literal; behind a term it
--- is the operator. Sums group to the left. A number is decimal digits of a value up to 32767, directly behind which neither `#` nor `.` stands. Comments and pragmas
--- are passed over. The code reads from left to right, with a look ahead at the operators of a sum, and numbers the nodes as it goes.
-use Rattle.std.specs.Prelude.{◌≡◌, ℕ, ◌-◌, ◌^◌, min, ◌&&◌, ◌||◌, Bool, true, false, not, nat_eq, nat_le, List, [], ◌∷◌, ◌++◌}
-use Rattle.std.specs.List.{list_all, list_any}
+-- A sum in parentheses is another form. Names are kept with their ASCII letters raised, places as
+-- they are. The code numbers the nodes as it goes from part to part, and goes down a sum by a loop.
+use Rattle.std.specs.Prelude.{◌≡◌, ℕ, ◌-◌, ◌*◌, ◌+◌, ◌&&◌, Bool, true, false, not, nat_le, is_none, if◌then◌else◌, List, [], ◌∷◌, map, Option, Some, None, option_and_then}
+use Rattle.std.specs.List.{fold, list_all}
+use Rattle.iec_tables.specs.Letters.{raised}
 use Rattle.iec_tables.specs.declared.elem.Elem.TheVariants as elem
-use Rattle.token_grammar.specs.declared.token.TokenKind.TheVariants.{Program, EndProgram, Var, EndVar, Int, Name, Number, Becomes, Colon, Comma, Semicolon, Plus, Minus}
-use Rattle.token_grammar.specs.declared.token.Token.{Token}
-use Rattle.token_grammar.specs.Texts.{Lexeme, name_of, number_of}
-use Rattle.token_grammar.specs.Kept.{words_of, place_at}
-use Rattle.token_grammar.specs.Kinds.{is_kind}
-use Rattle.token_grammar.specs.Grammar.{Rule, give, token, token_that, ◌>>=◌, ◌or◌, many, node, Spells, IsLongest}
-use Rattle.first_form.specs.declared.tree.Identifier.{Identifier}
-use Rattle.first_form.specs.declared.tree.Path.{Path}
-use Rattle.first_form.specs.declared.tree.Literal.{Literal}
 use Rattle.st_tree.specs.declared.code.Operator.{Operator}
 use Rattle.st_tree.specs.declared.code.Operator.TheVariants.{Add, Subtract}
+use Rattle.st_tree.specs.declared.declaration.TypeName.{TypeName}
+use Rattle.st_tree.specs.declared.declaration.TypeName.TheVariants.{Elementary}
+use Rattle.st_tree.specs.declared.declaration.Spec as typed
+use Rattle.st_tree.specs.declared.declaration.Spec.TheVariants as type
+use Rattle.st_tree.specs.declared.declaration.Decl as written_decl
+use Rattle.st_tree.specs.declared.declaration.SectionKind.{SectionKind}
+use Rattle.st_tree.specs.declared.declaration.SectionKind.TheVariants.{Var}
+use Rattle.st_tree.specs.declared.declaration.Keep.{Keep}
+use Rattle.st_tree.specs.declared.declaration.Section as written_section
+use Rattle.st_tree.specs.declared.expression.Identifier as written_identifier
+use Rattle.st_tree.specs.declared.expression.Root.{Root}
+use Rattle.st_tree.specs.declared.expression.Root.TheVariants as root
+use Rattle.st_tree.specs.declared.expression.BinaryOperator.{BinaryOperator}
+use Rattle.st_tree.specs.declared.expression.BinaryOperator.TheVariants as operators
+use Rattle.st_tree.specs.declared.expression.Path as written_path
+use Rattle.st_tree.specs.declared.expression.Expr as written
+use Rattle.st_tree.specs.declared.expression.Expr.TheVariants as source
+use Rattle.st_tree.specs.declared.expression.Expr.TheOpen.{Expr-F}
+use Rattle.st_tree.specs.declared.node.Node.{Node}
+use Rattle.st_tree.specs.declared.statement.Stmt as written_stmt
+use Rattle.st_tree.specs.declared.statement.Stmt.TheVariants as statement
+use Rattle.st_tree.specs.declared.file.Body.{Body}
+use Rattle.st_tree.specs.declared.file.Body.TheVariants.{Statements}
+use Rattle.st_tree.specs.declared.file.UnitKind.{UnitKind}
+use Rattle.st_tree.specs.declared.file.UnitKind.TheVariants.{Program}
+use Rattle.st_tree.specs.declared.file.Unit as written_unit
+use Rattle.st_tree.specs.declared.file.SourceTree as written_file
+use Rattle.first_form.specs.declared.tree.Identifier.{Identifier}
+use Rattle.first_form.specs.declared.tree.Path.{Path}
 use Rattle.first_form.specs.declared.tree.Expr.{Expr}
 use Rattle.first_form.specs.declared.tree.Expr.TheVariants as expr
 use Rattle.first_form.specs.declared.tree.Stmt.{Stmt}
@@ -34,193 +57,177 @@ use Rattle.first_form.specs.declared.tree.Decl.{Decl}
 use Rattle.first_form.specs.declared.tree.Section.{Section}
 use Rattle.first_form.specs.declared.tree.Unit.{Unit as SourceUnit}
 use Rattle.first_form.specs.declared.tree.SourceTree.{SourceTree}
-use Rattle.first_form.specs.Nodes.{IsNumbered, place_of}
-use Rattle.first_form.specs.Bare.{node_at, bare_unit}
-use Rattle.first_form.specs.Names.{Names, has, names_of, declared, declared_in}
-use Rattle.st_tree.specs.Feeds.{feeds_from}
+use Rattle.first_form.specs.Nodes.{IsNumbered}
+use Rattle.first_form.specs.Bare.{bare_node, bare_unit}
+use Rattle.first_form.specs.Names.{Names, has, declared_in}
 
--- ---- values with their places, from their first byte to the byte after their last
+-- Which names are declared.
+abbrev pub Known : Type 0
+Known = List ℕ → Bool
 
-abbrev pub make_identifier : ℕ → ℕ → Lexeme → Identifier
-make_identifier start end l = record { node = node_at start end; name = name_of l }
+infixl 10 ◌>>=◌
+abbrev pub ◌>>=◌ : {X Y : Type 0} → Option X → (X → Option Y) → Option Y
+o >>= f = option_and_then f o
 
-abbrev pub make_path : ℕ → ℕ → Identifier → Path
-make_path start end i = record { node = node_at start end; root = i }
+-- a value, where the test holds
+abbrev pub when : {X : Type 0} → Bool → X → Option X
+when test x = if test then Some x else None
 
-abbrev pub make_spec : ℕ → ℕ → Lexeme → Spec
-make_spec start end l = record { node = node_at start end; elem = elem.Int }
+-- what each of them is, where each is something
+abbrev pub each : {X Y : Type 0} → (X → Option Y) → List X → Option (List Y)
+each f [] = Some []
+each f (x ∷ xs) = do
+  y ← f x
+  ys ← each f xs
+  Some (y ∷ ys)
 
-abbrev pub make_decl : ℕ → ℕ → List Identifier × Spec → Decl
-make_decl start end p = record { node = node_at start end; names = p.0; spec = p.1 }
+abbrev pub is_empty : {X : Type 0} → List X → Bool
+is_empty [] = true
+is_empty (x ∷ xs) = false
 
-abbrev pub make_section : ℕ → ℕ → List Decl → Section
-make_section start end ds = record { node = node_at start end; decls = ds }
+-- ---- names and numbers
 
--- a number of the tree: a size is kept at 2^128 - 1
-abbrev pub kept : ℕ → ℕ
-kept size = min size (2 ^ 128 - 1)
+unfoldable pub identifier : written_identifier.Identifier → Identifier
+identifier i = record { node = bare_node i.node; name = map raised i.name }
 
-abbrev pub literal : Bool → Lexeme → Literal
-literal negative l = record { negative = negative; size = kept (number_of l.bytes) }
+abbrev pub named : Root → Option Identifier
+named (root.Name i) = Some (identifier i)
+named (root.Address a) = None
 
-abbrev pub make_number : ℕ → ℕ → Literal → Expr
-make_number start end n = expr.Number (node_at start end) n
-
--- from the first byte of the left operand to the end of the right one
-abbrev pub sum_of : Expr → Operator → Expr → Expr
-sum_of left o right = expr.Binary (node_at (place_of left).start (place_of right).end) o left right
-
-abbrev pub make_stmt : ℕ → ℕ → Path × Expr → Stmt
-make_stmt start end p = Assign (node_at start end) p.0 p.1
-
--- what stands between PROGRAM and END_PROGRAM
-pub record Parts : Type 0 where
-  pub name : Identifier
-  pub sections : List Section
-  pub body : List Stmt
-
-abbrev pub make_unit : ℕ → ℕ → Parts → SourceUnit
-make_unit start end p = record { node = node_at start end; name = p.name; sections = p.sections; body = p.body }
-
--- ---- numbers
+-- a declared name without parts
+unfoldable pub path : Known → written_path.Path → Option Path
+path known p = do
+  i ← named p.root
+  when (is_empty p.parts && known i.name) (record { node = bare_node p.node; root = i })
 
 abbrev pub is_decimal : ℕ → Bool
 is_decimal byte = nat_le 48 byte && nat_le byte 57
 
--- `#` or `.`
-abbrev pub goes_on : ℕ → Bool
-goes_on byte = nat_eq byte 35 || nat_eq byte 46
+-- the value of decimal digits
+abbrev pub number_of : List ℕ → ℕ
+number_of digits = fold (λ value digit. value * 10 + (digit - 48)) 0 digits
 
--- decimal digits of a value up to 32767
-abbrev pub is_short_numeral : List ℕ → Bool
-is_short_numeral digits = list_all is_decimal digits && nat_le (number_of digits) 32767
+-- decimal digits alone, of a value up to 32767
+abbrev pub is_short : List ℕ → Bool
+is_short digits = list_all is_decimal digits && nat_le (number_of digits) 32767
 
--- a number of this form
-abbrev pub is_short : Lexeme → Bool
-is_short l = is_kind Number l && (is_short_numeral l.bytes && not (list_any goes_on l.behind))
+-- ---- sums
 
--- ---- names
+abbrev pub number : Node → Bool → List ℕ → Option Expr
+number node negative digits =
+    when (is_short digits)
+    (expr.Number (bare_node node) (record { negative = negative; size = number_of digits }))
 
--- a name that the test doesn't pass, and one that it does
-abbrev pub is_new : (List ℕ → Bool) → Lexeme → Bool
-is_new known l = is_kind Name l && not (known (name_of l))
+-- a number, or a declared name
+unfoldable pub operand : Known → written.Expr → Option Expr
+operand known x = elim (written.out-Expr x) [
+  | Expr-F.Number node negative digits ↦ number node negative digits
+  | Expr-F.Path p ↦ path known p >>= λ q. Some (expr.Variable q)
+  | _ ↦ None
+]
 
-abbrev pub is_known : (List ℕ → Bool) → Lexeme → Bool
-is_known known l = is_kind Name l && known (name_of l)
+abbrev pub operator : BinaryOperator → Option Operator
+operator operators.Add = Some Add
+operator operators.Subtract = Some Subtract
+operator other = None
 
-abbrev pub identifier_that : (Lexeme → Bool) → Rule Identifier
-identifier_that test = node make_identifier (token_that test)
-
-abbrev pub identifier : Rule Identifier
-identifier = identifier_that (is_kind Name)
-
--- a name that isn't among these
-abbrev pub new_name : Names → Rule Identifier
-new_name names = identifier_that (is_new (has names))
-
--- a name among these, as a path
-abbrev pub path : Names → Rule Path
-path names = node make_path (identifier_that (is_known (has names)))
-
--- ---- declarations
-
--- one more name after a comma
-abbrev pub more_names : Names → List Identifier → Rule (List Identifier)
-more_names names is = do
-  comma ← token Comma
-  i ← new_name (names ++ names_of is)
-  give (is ++ i ∷ [])
-
-abbrev pub names_list : Names → Rule (List Identifier)
-names_list names = do
-  i ← new_name names
-  many (more_names names) (i ∷ [])
-
-abbrev pub spec : Rule Spec
-spec = node make_spec (token Int)
-
-abbrev pub decl : Names → Rule Decl
-decl names = node make_decl (do
-  is ← names_list names
-  colon ← token Colon
-  s ← spec
-  semicolon ← token Semicolon
-  give (is, s))
-
-abbrev pub more_decls : List Decl → Rule (List Decl)
-more_decls ds = do
-  one ← decl (declared ds)
-  give (ds ++ one ∷ [])
-
-abbrev pub section : Rule Section
-section = node make_section (do
-  first ← token Var
-  ds ← many more_decls []
-  last ← token EndVar
-  give ds)
-
--- a section, or none
-abbrev pub sections : Rule (List Section)
-sections = (section >>= λ s. give (s ∷ [])) or give []
+-- operands joined by + and -, grouped to the left
+unfoldable pub sum : Known → written.Expr → Option Expr
+sum known (source.Binary' node o l (written.more_of-Expr left written.end_of-Expr)
+    r (written.more_of-Expr right written.end_of-Expr)) = do
+      op ← operator o
+      x ← sum known left
+      y ← operand known right
+      Some (expr.Binary (bare_node node) op x y)
+sum known other = operand known other
 
 -- ---- statements
 
--- a number, a minus directly before it taken in
-abbrev pub number : Rule Expr
-number = node make_number
-    ((token Minus >>= λ minus. token_that is_short >>= λ l. give (literal true l)) or (token_that is_short >>= λ l. give (literal false l)))
+unfoldable pub stmt : Known → written_stmt.Stmt → Option Stmt
+stmt known (statement.Assign node target value) = do
+  p ← path known target
+  x ← sum known value
+  Some (Assign (bare_node node) p x)
+stmt known other = None
 
-abbrev pub term : Names → Rule Expr
-term names = (path names >>= λ p. give (expr.Variable p)) or number
+abbrev pub body : Known → Body → Option (List Stmt)
+body known (Statements stmts) = each (stmt known) stmts
+body known chart = None
 
-abbrev pub operator : Rule Operator
-operator = (token Plus >>= λ l. give Add) or (token Minus >>= λ l. give Subtract)
+-- ---- declarations
 
-abbrev pub more_terms : Names → Expr → Rule Expr
-more_terms names left = do
-  o ← operator
-  right ← term names
-  give (sum_of left o right)
+abbrev pub is_int : TypeName → Bool
+is_int (Elementary node elem.Int) = true
+is_int other = false
 
-abbrev pub sum : Names → Rule Expr
-sum names = term names >>= many (more_terms names)
+-- INT
+unfoldable pub spec : typed.Spec → Option Spec
+spec (type.«Type» node name None) =
+    when (is_int name) (record { node = bare_node node; elem = elem.Int })
+spec other = None
 
-abbrev pub stmt : Names → Rule Stmt
-stmt names = node make_stmt (do
-  target ← path names
-  becomes ← token Becomes
-  value ← sum names
-  semicolon ← token Semicolon
-  give (target, value))
+-- names and their type alone
+unfoldable pub decl : written_decl.Decl → Option Decl
+decl d = do
+  s ← spec d.spec
+  when (is_none d.address && is_none d.init)
+      (record { node = bare_node d.node; names = map identifier d.names; spec = s })
 
-abbrev pub more_stmts : Names → List Stmt → Rule (List Stmt)
-more_stmts names body = do
-  s ← stmt names
-  give (body ++ s ∷ [])
+-- VAR, without a word behind it
+abbrev pub is_plain : SectionKind → Option Keep → Bool
+is_plain Var None = true
+is_plain kind keep = false
 
-abbrev pub program : Rule SourceUnit
-program = node make_unit (do
-  first ← token Program
-  name ← identifier
-  ss ← sections
-  body ← many (more_stmts (declared_in ss)) []
-  last ← token EndProgram
-  give (record { name = name; sections = ss; body = body }))
+unfoldable pub section : written_section.Section → Option Section
+section s = do
+  ds ← each decl s.decls
+  when (is_plain s.kind s.keep) (record { node = bare_node s.node; decls = ds })
 
--- ---- files
+-- one section, or none
+unfoldable pub sections : List written_section.Section → Option (List Section)
+sections [] = Some []
+sections (s ∷ []) = section s >>= λ one. Some (one ∷ [])
+sections (s ∷ t ∷ more) = None
 
--- The tokens of a text spell this tree: that of one program, its nodes numbered, with the text's line feeds.
-pub record IsTree (text : List ℕ) (tokens : List Token) (tree : SourceTree) : Type 0 where
+-- no name stands twice
+abbrev pub are_apart : Names → Bool
+are_apart [] = true
+are_apart (name ∷ names) = not (has names name) && are_apart names
+
+-- ---- the file
+
+abbrev pub is_program : UnitKind → Bool
+is_program Program = true
+is_program other = false
+
+-- the program with these sections, whose statements use the names that they declare
+abbrev pub of_sections : written_unit.Unit → List Section → Option SourceUnit
+of_sections u ss = do
+  stmts ← body (has (declared_in ss)) u.body
+  Some (record { node = bare_node u.node; name = identifier u.name; sections = ss; body = stmts })
+
+-- a program that declares each name once and uses none but these
+unfoldable pub unit_of : written_unit.Unit → Option SourceUnit
+unit_of u = do
+  ss ← sections u.sections
+  if is_program u.kind && are_apart (declared_in ss) then of_sections u ss else None
+
+abbrev pub one_of : {X : Type 0} → List X → Option X
+one_of (x ∷ []) = Some x
+one_of other = None
+
+-- the one unit of a file without further parts
+unfoldable pub only_unit : written_file.SourceTree → Option written_unit.Unit
+only_unit file =
+    if is_empty file.types && is_empty file.globals && is_empty file.config
+    then one_of file.units
+    else None
+
+-- The file is of the first form, and this is its tree: that of its one program, the nodes numbered
+-- anew, with the places of the file's line feeds. (What is made of the parts has no numbers.)
+pub record IsFirstForm (file : written_file.SourceTree) (tree : SourceTree) : Type 0 where
   pub unit : SourceUnit
   pub units : tree.units ≡ unit ∷ []
-  pub feeds : tree.feeds ≡ feeds_from 0 text
-  -- (what is spelled has no numbers)
-  pub spelled : Spells program (words_of text tokens) (bare_unit unit)
+  pub feeds : tree.feeds ≡ file.feeds
+  pub form : (only_unit file >>= unit_of) ≡ Some (bare_unit unit)
   pub numbered : IsNumbered tree
-
--- The tokens spell no tree, and with the one at this place they no longer begin one.
-pub record IsRefused (text : List ℕ) (tokens : List Token) (at : ℕ) : Type 0 where
-  pub unspelled : (tree : SourceTree) → IsTree text tokens tree → ⊥
-  pub rest : List Lexeme
-  pub longest : IsLongest program (words_of text tokens) rest
-  pub place : at ≡ place_at text rest

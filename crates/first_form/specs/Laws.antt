@@ -1,23 +1,16 @@
--- What holds of the trees that tokens spell.
-use Rattle.std.specs.Prelude.{◌≡◌, ℕ, ◌≤◌, List, length}
-use Rattle.std.specs.List.{Contains}
-use Rattle.token_grammar.specs.declared.token.Token.{Token}
-use Rattle.st_tree.specs.declared.node.Node.{Node}
+-- What holds of the trees of the first form.
+use Rattle.std.specs.Prelude.{◌≡◌}
+use Rattle.st_tree.specs.declared.file.SourceTree as written_file
 use Rattle.first_form.specs.declared.tree.SourceTree.{SourceTree}
-use Rattle.first_form.specs.Nodes.{nodes_of}
 use Rattle.first_form.specs.Names.{UsesDeclared}
-use Rattle.first_form.specs.FirstForm.{IsTree}
+use Rattle.first_form.specs.FirstForm.{IsFirstForm}
 
--- The tokens of a text spell one tree at most.
-abbrev pub OneTree : Type 0
-OneTree = (text : List ℕ) (tokens : List Token) (tree other : SourceTree) → IsTree text tokens tree → IsTree text tokens other → tree ≡ other
+-- A file has one tree of the first form at most.
+abbrev pub OneForm : Type 0
+OneForm = (file : written_file.SourceTree) (tree other : SourceTree) → IsFirstForm file tree
+    → IsFirstForm file other → tree ≡ other
 
--- each token lies within the text
-abbrev pub AreIn : List ℕ → List Token → Type 0
-AreIn text tokens = (t : Token) → Contains tokens t → (t.start ≤ t.end) × (t.end ≤ length text)
-
--- The unit of a tree names declared variables alone, and the nodes of the tree start within the text.
-abbrev pub SoundTree : Type 0
-SoundTree =
-    (text : List ℕ) (tokens : List Token) (tree : SourceTree) (is : IsTree text tokens tree) → AreIn text tokens →
-    UsesDeclared is.unit × ((m : Node) → Contains (nodes_of tree) m → m.start ≤ length text)
+-- The unit of such a tree names declared variables alone.
+abbrev pub SoundForm : Type 0
+SoundForm = (file : written_file.SourceTree) (tree : SourceTree) (is : IsFirstForm file tree)
+    → UsesDeclared is.unit

@@ -2,9 +2,5 @@ pub mod Nodes
 pub mod Bare
 pub mod Names
 pub mod FirstForm
-pub mod Answers
 pub mod Laws
-pub mod Parse
-pub mod Known
-pub mod Ahead
-pub mod Numbering
+pub mod steps

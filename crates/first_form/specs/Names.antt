@@ -1,4 +1,5 @@
--- The names that a unit declares, and whether its body names those alone. Source: this profile, in which a variable is declared before it is
+-- The names that a unit declares, and whether its body names those alone. Source: this profile, in
+-- which a variable is declared before it is
 -- used and a number of the code lies within 128 bits. The code looks names up in a sorted table.
 use Rattle.std.specs.Prelude.{◌≡◌, ℕ, ◌<◌, ◌^◌, Bool, true, bytes_eq, List, [], ◌∷◌, map, flat_map}
 use Rattle.std.specs.List.{list_any}
@@ -37,10 +38,12 @@ unit_names unit = declared_in unit.sections
 abbrev pub ExprUses : Names → Expr → Type 0
 ExprUses names (expr.Number node numeral) = numeral.size < 2 ^ 127
 ExprUses names (expr.Variable path) = has names path.root.name ≡ true
-ExprUses names (expr.Binary' node operator l (more_of-Expr left end_of-Expr) r (more_of-Expr right end_of-Expr)) = ExprUses names left × ExprUses names right
+ExprUses names (expr.Binary' node operator l (more_of-Expr left end_of-Expr) r
+    (more_of-Expr right end_of-Expr)) = ExprUses names left × ExprUses names right
 
 abbrev pub StmtUses : Names → Stmt → Type 0
-StmtUses names (Assign node target value) = (has names target.root.name ≡ true) × ExprUses names value
+StmtUses names (Assign node target value) =
+    (has names target.root.name ≡ true) × ExprUses names value
 
 abbrev pub BodyUses : Names → List Stmt → Type 0
 BodyUses names [] = Unit {0}

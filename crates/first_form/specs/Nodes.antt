@@ -1,4 +1,5 @@
--- The nodes of a tree: an outer one before those within it, and these in the order of the text. Source: this profile. The code numbers
+-- The nodes of a tree: an outer one before those within it, and these in the order of the text.
+-- Source: this profile. The code numbers
 -- nodes as it reads.
 use Rattle.std.specs.Prelude.{◌≡◌, ℕ, suc, List, [], ◌∷◌, ◌++◌, map, flat_map}
 use Rattle.st_tree.specs.declared.node.Node.{Node}
@@ -25,7 +26,8 @@ path_nodes path = path.node ∷ path.root.node ∷ []
 abbrev pub expr_nodes : Expr → List Node
 expr_nodes (expr.Number node literal) = node ∷ []
 expr_nodes (expr.Variable path) = path_nodes path
-expr_nodes (expr.Binary' node operator l (more_of-Expr left end_of-Expr) r (more_of-Expr right end_of-Expr)) = node ∷ (expr_nodes left ++ expr_nodes right)
+expr_nodes (expr.Binary' node operator l (more_of-Expr left end_of-Expr) r
+    (more_of-Expr right end_of-Expr)) = node ∷ (expr_nodes left ++ expr_nodes right)
 
 abbrev pub stmt_nodes : Stmt → List Node
 stmt_nodes (stmt.Assign node target value) = node ∷ (path_nodes target ++ expr_nodes value)
@@ -40,7 +42,9 @@ abbrev pub section_nodes : Section → List Node
 section_nodes section = section.node ∷ flat_map decl_nodes section.decls
 
 abbrev pub unit_nodes : SourceUnit → List Node
-unit_nodes unit = unit.node ∷ (unit.name.node ∷ (flat_map section_nodes unit.sections ++ flat_map stmt_nodes unit.body))
+unit_nodes unit =
+    unit.node ∷ (unit.name.node ∷ (flat_map section_nodes unit.sections ++ flat_map stmt_nodes
+    unit.body))
 
 abbrev pub nodes_of : SourceTree → List Node
 nodes_of tree = flat_map unit_nodes tree.units

@@ -1,10 +1,9 @@
-// What the grammar says of its trees.
+// What holds of the trees of the first form.
 
-ghost use Rattle.first_form.specs.Laws.{OneTree, SoundTree};
+ghost use Rattle.first_form.specs.Laws.{OneForm, SoundForm};
 
-/// A text has one tree at most. A tree names the variables that it declares alone, and its nodes start within the text, where the
-/// tokens do.
-pub fn tree_laws()
-    ensures one { OneTree }
-    ensures sound { SoundTree }
+/// A file has one tree of the first form at most, and its unit names declared variables alone.
+pub fn form_laws()
+    ensures one { OneForm }
+    ensures sound { SoundForm }
 {}

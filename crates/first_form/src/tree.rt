@@ -1,9 +1,10 @@
-// The tree of a source text, after the textual grammar of the standard. Each node holds its number and its place.
+// The tree of a source text, after the textual grammar of the standard. Each node holds its number
+// and its place.
 
 use iec_tables::elem::Elem;
-use tree_items::{Boxed, Items};
 use st_tree::{Node, Operator};
 use station_ports::texts::Name;
+use tree_items::{Boxed, Items};
 
 /// A name, with its ASCII letters raised.
 #[derive(Drop)]

@@ -43,7 +43,8 @@ module _ {A : Type 0} (parser : ℕ → Parser A) (rule : ℕ → Rule A) (first
     from = sub_some_of (λ n. n) (λ n. sub n (258 + n) (omega arith));
   }
 
-  pub form_all : ((m : ℕ) → Starts (rule m) firsts) → Form Here (parser 257) (some_of rule) firsts ends
+  pub form_all : ((m : ℕ) → Starts (rule m) firsts)
+      → Form Here (parser 257) (some_of rule) firsts ends
   form_all starts = record {
     exact = exact_as from_depth (exact_some_of (λ n. exact_within 257 (258 + n) (omega arith)));
     starts = starts_some_of starts;
@@ -63,15 +64,18 @@ spec_sub zero m le = record { to = λ d w x e l. absurd l }
 spec_sub (suc n) zero le = absurd (omega (arith, le))
 spec_sub (suc n) (suc m) le =
     let inner = spec_sub n m (omega (arith, le)) in
-    let array = sub_node make_array (sub_scoped (sub_then (λ _. sub_then (λ rs. sub_then (λ _. sub_before inner))))) in
-    let within : SubRule (g.any_spec (g.spec_within n)) (g.any_spec (g.spec_within m)) = sub_or array sub_self in
+    let array = sub_node make_array (sub_scoped
+        (sub_then (λ _. sub_then (λ rs. sub_then (λ _. sub_before inner))))) in
+    let within : SubRule (g.any_spec (g.spec_within n)) (g.any_spec (g.spec_within m)) =
+        sub_or array sub_self in
     record { to = λ d w x e l. within.to d w x e l }
 
 -- ---- initial values
 
 module _ {inner outer : Rule Init} (h : SubRule inner outer) where
   repeated_item : SubRule (g.repeated_item inner) (g.repeated_item outer)
-  repeated_item = sub_node make_repeated (sub_then (λ text. sub_scoped (sub_then (λ _. sub_before h))))
+  repeated_item = sub_node make_repeated (sub_then
+      (λ text. sub_scoped (sub_then (λ _. sub_before h))))
 
   one_item : SubRule (g.one_item inner) (g.one_item outer)
   one_item = sub_or repeated_item (sub_before h)
@@ -88,7 +92,8 @@ module _ {inner outer : Rule Init} (h : SubRule inner outer) where
   field_init : SubRule (g.field_init inner) (g.field_init outer)
   field_init = sub_node make_field_init (sub_then (λ i. sub_then (λ _. sub_before h)))
 
-  more_field_inits : (xs : List FieldInit) → SubRule (g.more_field_inits inner xs) (g.more_field_inits outer xs)
+  more_field_inits : (xs : List FieldInit) → SubRule (g.more_field_inits inner xs)
+      (g.more_field_inits outer xs)
   more_field_inits xs = sub_then (λ _. sub_before field_init)
 
   field_list : SubRule (g.field_list inner) (g.field_list outer)

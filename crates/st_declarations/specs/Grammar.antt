@@ -1,5 +1,7 @@
--- The grammar of declarations. Source: the textual grammar of IEC 61131-3:2013, narrowed to this profile. A rule with a part that may be
--- left out is written as that part or nothing. The code descends by a look at the next token, or at the next two or three.
+-- The grammar of declarations. Source: the textual grammar of IEC 61131-3:2013, narrowed to this
+-- profile. A rule with a part that may be
+-- left out is written as that part or nothing. The code descends by a look at the next token, or at
+-- the next two or three.
 use Rattle.std.specs.Prelude.{ℕ, zero, suc, List, [], ◌∷◌, ◌++◌, Option, Some, None}
 use Rattle.token_grammar.specs.declared.token.TokenKind.{TokenKind}
 use Rattle.token_grammar.specs.declared.token.TokenKind.TheVariants as k
@@ -45,13 +47,17 @@ elem_as kind x = node make_elementary (token kind >>= λ _. give x)
 
 -- one of the 14 type names
 abbrev pub unsigned_or_time : Rule TypeName
-unsigned_or_time = elem_as k.Usint e.Usint or (elem_as k.Uint e.Uint or (elem_as k.Udint e.Udint or (elem_as k.Ulint e.Ulint or elem_as k.Time e.Time)))
+unsigned_or_time = elem_as k.Usint e.Usint or (elem_as k.Uint e.Uint
+    or (elem_as k.Udint e.Udint or (elem_as k.Ulint e.Ulint or elem_as k.Time e.Time)))
 
 abbrev pub number_or_time : Rule TypeName
-number_or_time = elem_as k.Sint e.Sint or (elem_as k.Int e.Int or (elem_as k.Dint e.Dint or (elem_as k.Lint e.Lint or unsigned_or_time)))
+number_or_time = elem_as k.Sint e.Sint or (elem_as k.Int e.Int
+    or (elem_as k.Dint e.Dint or (elem_as k.Lint e.Lint or unsigned_or_time)))
 
 abbrev pub elementary : Rule TypeName
-elementary = elem_as k.Bool e.Bool or (elem_as k.Byte e.Byte or (elem_as k.Word e.Word or (elem_as k.Dword e.Dword or (elem_as k.Lword e.Lword or number_or_time))))
+elementary = elem_as k.Bool e.Bool or (elem_as k.Byte e.Byte
+    or (elem_as k.Word e.Word or (elem_as k.Dword e.Dword
+    or (elem_as k.Lword e.Lword or number_or_time))))
 
 -- typename = name | one of the 14 type names
 abbrev pub typename : Rule TypeName
@@ -59,11 +65,13 @@ typename = (identifier >>= λ i. give (type.Named i)) or elementary
 
 -- range = expr ".." expr
 abbrev pub range : Rule Range
-range = node make_range (expression >>= λ a. token k.DotDot >>= λ _. expression >>= λ b. give (a, b))
+range = node make_range (expression >>= λ a. token k.DotDot >>= λ _. expression >>= λ b.
+    give (a, b))
 
 -- "(" range ")"
 abbrev pub bounds : Rule (Option Range)
-bounds = scoped (opening k.OpenParenthesis >>= λ _. range >>= λ r. token k.CloseParenthesis >>= λ _. give (Some r))
+bounds = scoped (opening k.OpenParenthesis >>= λ _. range >>= λ r. token k.CloseParenthesis >>= λ _.
+    give (Some r))
 
 abbrev pub optional_bounds : Rule (Option Range)
 optional_bounds = bounds or give None
@@ -74,7 +82,9 @@ plain_spec = node make_type (typename >>= λ t. optional_bounds >>= λ r. give (
 
 -- "(" names ")"
 abbrev pub enumeration : Rule Spec
-enumeration = node make_enumeration (scoped (opening k.OpenParenthesis >>= λ _. names >>= λ ns. token k.CloseParenthesis >>= λ _. give ns))
+enumeration =
+    node make_enumeration (scoped (opening k.OpenParenthesis >>= λ _. names >>= λ ns.
+    token k.CloseParenthesis >>= λ _. give ns))
 
 abbrev pub more_ranges : List Range → Rule (List Range)
 more_ranges rs = token k.Comma >>= λ _. range >>= λ r. give (rs ++ r ∷ [])
@@ -84,11 +94,14 @@ range_list = range >>= λ r. many more_ranges (r ∷ [])
 
 -- "[" range { "," range } "]"
 abbrev pub ranges : Rule (List Range)
-ranges = scoped (opening k.OpenBracket >>= λ _. range_list >>= λ rs. token k.CloseBracket >>= λ _. give rs)
+ranges = scoped (opening k.OpenBracket >>= λ _. range_list >>= λ rs. token k.CloseBracket >>= λ _.
+    give rs)
 
 -- ARRAY "[" range { "," range } "]" OF spec, in which ARRAY counts in the depth up to the end
 abbrev pub array : Rule Spec → Rule Spec
-array inner = node make_array (scoped (opening k.Array >>= λ _. ranges >>= λ rs. token k.Of >>= λ _. inner >>= λ s. give (rs, s)))
+array inner =
+    node make_array (scoped (opening k.Array >>= λ _. ranges >>= λ rs. token k.Of >>= λ _.
+    inner >>= λ s. give (rs, s)))
 
 -- spec = typename [ "(" range ")" ] | "(" names ")" | ARRAY "[" range { "," range } "]" OF spec
 abbrev pub any_spec : Rule Spec → Rule Spec
@@ -108,7 +121,9 @@ spec d w x e = (n : ℕ) × spec_within n d w x e
 module _ (inner : Rule Init) where
   -- number "(" init ")"
   abbrev pub repeated_item : Rule Item
-  repeated_item = node make_repeated (word k.Number >>= λ text. scoped (opening k.OpenParenthesis >>= λ _. inner >>= λ x. token k.CloseParenthesis >>= λ _. give (text, x)))
+  repeated_item = node make_repeated (word k.Number >>= λ text.
+      scoped (opening k.OpenParenthesis >>= λ _. inner >>= λ x. token k.CloseParenthesis >>= λ _.
+      give (text, x)))
 
   -- item = init | number "(" init ")"
   abbrev pub one_item : Rule Item
@@ -122,11 +137,13 @@ module _ (inner : Rule Init) where
 
   -- "[" item { "," item } "]"
   abbrev pub elements : Rule Init
-  elements = node make_elements (scoped (opening k.OpenBracket >>= λ _. item_list >>= λ xs. token k.CloseBracket >>= λ _. give xs))
+  elements = node make_elements (scoped (opening k.OpenBracket >>= λ _. item_list >>= λ xs.
+      token k.CloseBracket >>= λ _. give xs))
 
   -- name ":=" init
   abbrev pub field_init : Rule FieldInit
-  field_init = node make_field_init (identifier >>= λ i. token k.Becomes >>= λ _. inner >>= λ x. give (i, x))
+  field_init = node make_field_init (identifier >>= λ i. token k.Becomes >>= λ _. inner >>= λ x.
+      give (i, x))
 
   abbrev pub more_field_inits : List FieldInit → Rule (List FieldInit)
   more_field_inits xs = token k.Comma >>= λ _. field_init >>= λ x. give (xs ++ x ∷ [])
@@ -136,7 +153,8 @@ module _ (inner : Rule Init) where
 
   -- "(" name ":=" init { "," name ":=" init } ")"
   abbrev pub structure : Rule Init
-  structure = node make_structure (scoped (opening k.OpenParenthesis >>= λ _. field_list >>= λ xs. token k.CloseParenthesis >>= λ _. give xs))
+  structure = node make_structure (scoped (opening k.OpenParenthesis >>= λ _. field_list >>= λ xs.
+      token k.CloseParenthesis >>= λ _. give xs))
 
   -- init = expr | "[" item { "," item } "]" | "(" name ":=" init { "," name ":=" init } ")"
   abbrev pub any_init : Rule Init
@@ -169,7 +187,8 @@ optional_address = located or give None
 
 -- decl = names [ AT address ] ":" spec [ ":=" init ] ";"
 abbrev pub decl : Rule Decl
-decl = node make_decl (names >>= λ ns. optional_address >>= λ a. token k.Colon >>= λ _. spec >>= λ s. optional_init >>= λ i. token k.Semicolon >>= λ _. give (ns, a, s, i))
+decl = node make_decl (names >>= λ ns. optional_address >>= λ a. token k.Colon >>= λ _.
+    spec >>= λ s. optional_init >>= λ i. token k.Semicolon >>= λ _. give (ns, a, s, i))
 
 abbrev pub more_decls : List Decl → Rule (List Decl)
 more_decls ds = decl >>= λ x. give (ds ++ x ∷ [])
@@ -184,19 +203,25 @@ keep_as kind x = token kind >>= λ _. give (Some x)
 
 -- [ keep ]
 abbrev pub keep : Rule (Option Keep)
-keep = keep_as k.Constant keep_kind.Constant or (keep_as k.Retain keep_kind.Retain or (keep_as k.NonRetain keep_kind.NonRetain or give None))
+keep = keep_as k.Constant keep_kind.Constant or (keep_as k.Retain keep_kind.Retain
+    or (keep_as k.NonRetain keep_kind.NonRetain or give None))
 
 -- VAR | VAR_INPUT | VAR_OUTPUT | VAR_IN_OUT | VAR_EXTERNAL | VAR_TEMP
 abbrev pub section_as : TokenKind → SectionKind → Rule SectionKind
 section_as kind x = token kind >>= λ _. give x
 
 abbrev pub section_word : Rule SectionKind
-section_word = section_as k.Var section_kind.Var or (section_as k.VarInput section_kind.Input or (section_as k.VarOutput section_kind.Output
-    or (section_as k.VarInOut section_kind.InOut or (section_as k.VarExternal section_kind.External or section_as k.VarTemp section_kind.Temp))))
+section_word = section_as k.Var section_kind.Var
+    or (section_as k.VarInput section_kind.Input or (section_as k.VarOutput section_kind.Output
+    or (section_as k.VarInOut section_kind.InOut
+        or (section_as k.VarExternal section_kind.External
+        or section_as k.VarTemp section_kind.Temp))))
 
--- section = ( VAR | VAR_INPUT | VAR_OUTPUT | VAR_IN_OUT | VAR_EXTERNAL | VAR_TEMP ) [ keep ] { decl } END_VAR
+-- section = ( VAR | VAR_INPUT | VAR_OUTPUT | VAR_IN_OUT | VAR_EXTERNAL | VAR_TEMP ) [ keep ] { decl
+-- } END_VAR
 abbrev pub section : Rule Section
-section = node make_section (section_word >>= λ kind. keep >>= λ kp. decls >>= λ ds. token k.EndVar >>= λ _. give (kind, kp, ds))
+section = node make_section (section_word >>= λ kind. keep >>= λ kp. decls >>= λ ds.
+    token k.EndVar >>= λ _. give (kind, kp, ds))
 
 abbrev pub more_sections : List Section → Rule (List Section)
 more_sections found = section >>= λ x. give (found ++ x ∷ [])
@@ -207,7 +232,8 @@ sections = many more_sections []
 
 -- globals = VAR_GLOBAL [ keep ] { decl } END_VAR
 abbrev pub globals : Rule Globals
-globals = node make_globals (token k.VarGlobal >>= λ _. keep >>= λ kp. decls >>= λ ds. token k.EndVar >>= λ _. give (kp, ds))
+globals = node make_globals (token k.VarGlobal >>= λ _. keep >>= λ kp. decls >>= λ ds.
+    token k.EndVar >>= λ _. give (kp, ds))
 
 abbrev pub more_globals : List Globals → Rule (List Globals)
 more_globals found = globals >>= λ x. give (found ++ x ∷ [])
@@ -220,7 +246,8 @@ globals_list = many more_globals []
 
 -- names ":" spec [ ":=" init ] ";"
 abbrev pub fields : Rule Fields
-fields = node make_fields (names >>= λ ns. token k.Colon >>= λ _. spec >>= λ s. optional_init >>= λ i. token k.Semicolon >>= λ _. give (ns, s, i))
+fields = node make_fields (names >>= λ ns. token k.Colon >>= λ _. spec >>= λ s.
+    optional_init >>= λ i. token k.Semicolon >>= λ _. give (ns, s, i))
 
 abbrev pub more_fields : List Fields → Rule (List Fields)
 more_fields found = fields >>= λ x. give (found ++ x ∷ [])
@@ -231,14 +258,16 @@ fields_list = many more_fields []
 
 -- struct = STRUCT { names ":" spec [ ":=" init ] ";" } END_STRUCT
 abbrev pub struct_shape : Rule Shape
-struct_shape = node make_struct (token k.Struct >>= λ _. fields_list >>= λ found. token k.EndStruct >>= λ _. give found)
+struct_shape = node make_struct (token k.Struct >>= λ _. fields_list >>= λ found.
+    token k.EndStruct >>= λ _. give found)
 
 abbrev pub shape : Rule Shape
 shape = struct_shape or (spec >>= λ s. give (shape_kind.Spec s))
 
 -- name ":" ( spec | struct ) [ ":=" init ] ";"
 abbrev pub type_decl : Rule TypeDecl
-type_decl = node make_type_decl (identifier >>= λ name. token k.Colon >>= λ _. shape >>= λ s. optional_init >>= λ i. token k.Semicolon >>= λ _. give (name, s, i))
+type_decl = node make_type_decl (identifier >>= λ name. token k.Colon >>= λ _. shape >>= λ s.
+    optional_init >>= λ i. token k.Semicolon >>= λ _. give (name, s, i))
 
 abbrev pub more_type_decls : List TypeDecl → Rule (List TypeDecl)
 more_type_decls found = type_decl >>= λ x. give (found ++ x ∷ [])
@@ -249,13 +278,15 @@ type_decls = many more_type_decls []
 
 -- types = TYPE { name ":" ( spec | struct ) [ ":=" init ] ";" } END_TYPE
 abbrev pub types : Rule Types
-types = node make_types (token k.Type >>= λ _. type_decls >>= λ found. token k.EndType >>= λ _. give found)
+types = node make_types (token k.Type >>= λ _. type_decls >>= λ found. token k.EndType >>= λ _.
+    give found)
 
 -- ---- configurations
 
 -- name ":=" expr
 abbrev pub parameter : Rule Parameter
-parameter = node make_parameter (identifier >>= λ name. token k.Becomes >>= λ _. expression >>= λ x. give (name, x))
+parameter = node make_parameter (identifier >>= λ name. token k.Becomes >>= λ _. expression >>= λ x.
+    give (name, x))
 
 abbrev pub more_parameters : List Parameter → Rule (List Parameter)
 more_parameters found = token k.Comma >>= λ _. parameter >>= λ x. give (found ++ x ∷ [])
@@ -265,11 +296,13 @@ parameter_list = parameter >>= λ x. many more_parameters (x ∷ [])
 
 -- "(" name ":=" expr { "," name ":=" expr } ")"
 abbrev pub parameters : Rule (List Parameter)
-parameters = scoped (opening k.OpenParenthesis >>= λ _. parameter_list >>= λ found. token k.CloseParenthesis >>= λ _. give found)
+parameters = scoped (opening k.OpenParenthesis >>= λ _. parameter_list >>= λ found.
+    token k.CloseParenthesis >>= λ _. give found)
 
 -- TASK name "(" name ":=" expr { "," name ":=" expr } ")" ";"
 abbrev pub task : Rule Task
-task = node make_task (token k.Task >>= λ _. identifier >>= λ name. parameters >>= λ found. token k.Semicolon >>= λ _. give (name, found))
+task = node make_task (token k.Task >>= λ _. identifier >>= λ name. parameters >>= λ found.
+    token k.Semicolon >>= λ _. give (name, found))
 
 abbrev pub more_tasks : List Task → Rule (List Task)
 more_tasks found = task >>= λ x. give (found ++ x ∷ [])
@@ -286,7 +319,9 @@ optional_task = with_task or give None
 
 -- PROGRAM name [ WITH name ] ":" name ";"
 abbrev pub program_line : Rule ProgramLine
-program_line = node make_line (token k.Program >>= λ _. identifier >>= λ name. optional_task >>= λ t. token k.Colon >>= λ _. identifier >>= λ program. token k.Semicolon >>= λ _. give (name, t, program))
+program_line = node make_line (token k.Program >>= λ _. identifier >>= λ name.
+    optional_task >>= λ t. token k.Colon >>= λ _. identifier >>= λ program.
+    token k.Semicolon >>= λ _. give (name, t, program))
 
 abbrev pub more_lines : List ProgramLine → Rule (List ProgramLine)
 more_lines found = program_line >>= λ x. give (found ++ x ∷ [])
@@ -294,13 +329,16 @@ more_lines found = program_line >>= λ x. give (found ++ x ∷ [])
 abbrev pub line_list : Rule (List ProgramLine)
 line_list = many more_lines []
 
--- tasks = { TASK name "(" name ":=" expr { "," name ":=" expr } ")" ";" } { PROGRAM name [ WITH name ] ":" name ";" }
+-- tasks = { TASK name "(" name ":=" expr { "," name ":=" expr } ")" ";" } { PROGRAM name [ WITH
+-- name ] ":" name ";" }
 abbrev pub tasks : Rule Tasks
 tasks = task_list >>= λ found. line_list >>= λ lines. give (tasks_of found lines)
 
 -- RESOURCE name ON name { globals } tasks END_RESOURCE
 abbrev pub resource : Rule Resource
-resource = node make_resource (token k.Resource >>= λ _. identifier >>= λ name. token k.On >>= λ _. identifier >>= λ kind. globals_list >>= λ gs. tasks >>= λ ts. token k.EndResource >>= λ _. give (name, kind, gs, ts))
+resource = node make_resource (token k.Resource >>= λ _. identifier >>= λ name. token k.On >>= λ _.
+    identifier >>= λ kind. globals_list >>= λ gs. tasks >>= λ ts. token k.EndResource >>= λ _.
+    give (name, kind, gs, ts))
 
 abbrev pub more_resources : List Resource → Rule (List Resource)
 more_resources found = resource >>= λ x. give (found ++ x ∷ [])
@@ -308,6 +346,9 @@ more_resources found = resource >>= λ x. give (found ++ x ∷ [])
 abbrev pub resources : Rule (List Resource)
 resources = many more_resources []
 
--- config = CONFIGURATION name { globals } { RESOURCE name ON name { globals } tasks END_RESOURCE } tasks END_CONFIGURATION
+-- config = CONFIGURATION name { globals } { RESOURCE name ON name { globals } tasks END_RESOURCE }
+-- tasks END_CONFIGURATION
 abbrev pub config : Rule Config
-config = node make_config (token k.Configuration >>= λ _. identifier >>= λ name. globals_list >>= λ gs. resources >>= λ rs. tasks >>= λ ts. token k.EndConfiguration >>= λ _. give (name, gs, rs, ts))
+config = node make_config (token k.Configuration >>= λ _. identifier >>= λ name.
+    globals_list >>= λ gs. resources >>= λ rs. tasks >>= λ ts. token k.EndConfiguration >>= λ _.
+    give (name, gs, rs, ts))

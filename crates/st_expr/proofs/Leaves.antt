@@ -9,7 +9,8 @@ use Rattle.st_expr.specs.Trees.{make_identifier, make_address, make_number, make
 use Rattle.st_expr.specs.Grammar as g
 use Rattle.st_expr.specs.steps.Parse as p
 
-pub form_word : {V : ℕ → Type 0} (kind : TokenKind) → Form V (p.word kind) (g.word kind) (kind ∷ []) []
+pub form_word : {V : ℕ → Type 0} (kind : TokenKind)
+    → Form V (p.word kind) (g.word kind) (kind ∷ []) []
 unfolding p.word
 form_word kind = form_as (λ l. l.bytes) (form_token kind 0 0)
 
@@ -32,7 +33,8 @@ level_address = level_node make_address (level_word k.Address)
 
 pub form_field : (n : ℕ) → Form (Body n) p.field g.field (k.Dot ∷ []) []
 unfolding p.field
-form_field n = form_take {W = Body n} k.Dot 0 0 (λ _. (form_as part.Field form_identifier).exact) (λ d v le. omega (arith, v))
+form_field n = form_take {W = Body n} k.Dot 0 0 (λ _. (form_as part.Field form_identifier).exact)
+    (λ d v le. omega (arith, v))
 
 pub level_field : IsLevel g.field
 level_field = level_then k.Dot (λ _. level_bind level_identifier (λ i. level_give (part.Field i)))
@@ -49,6 +51,7 @@ pub form_time : {V : ℕ → Type 0} → Form V p.time g.time (k.Duration ∷ []
 unfolding p.time
 form_time = form_node make_time (form_word k.Duration)
 
-pub form_truth : {V : ℕ → Type 0} (kind : TokenKind) (b : Bool) → Form V (p.truth kind b) (g.truth kind b) (kind ∷ []) []
+pub form_truth : {V : ℕ → Type 0} (kind : TokenKind) (b : Bool)
+    → Form V (p.truth kind b) (g.truth kind b) (kind ∷ []) []
 unfolding p.truth
 form_truth kind b = form_node make_truth (form_as (λ _. b) (form_token kind 0 0))

@@ -36,7 +36,8 @@ module _ {inner outer : Rule Expr} (h : SubRule inner outer) where
   argument : SubRule (g.argument inner) (g.argument outer)
   argument = sub_node make_argument (sub_or named_argument (sub_before h))
 
-  more_arguments : (found : List Argument) → SubRule (g.more_arguments inner found) (g.more_arguments outer found)
+  more_arguments : (found : List Argument)
+      → SubRule (g.more_arguments inner found) (g.more_arguments outer found)
   more_arguments found = sub_then (λ _. sub_before argument)
 
   arguments : SubRule (g.arguments inner) (g.arguments outer)
@@ -46,7 +47,8 @@ module _ {inner outer : Rule Expr} (h : SubRule inner outer) where
   called = sub_scoped (sub_then (λ _. sub_before arguments))
 
   ending : (name : Identifier)
-      → SubRule (g.value_ending inner name or (g.call_ending inner name or g.path_ending inner name))
+      → SubRule (g.value_ending inner name
+      or (g.call_ending inner name or g.path_ending inner name))
       (g.value_ending outer name or (g.call_ending outer name or g.path_ending outer name))
   ending name = sub_or sub_self (sub_or (sub_before called) (sub_before parts))
 
@@ -73,7 +75,8 @@ module _ {inner outer : Rule Expr} (h : SubRule inner outer) where
   unfolding g.level
   level zero = sub_or signed (sub_or inverted primary)
   level (suc l) = sub_bind (sub_node from_start (level l)) (λ q. sub_many
-      (λ left. sub_node (λ _ end x. make_binary q.1 end left x) (sub_then (λ o. sub_before (level l)))) q.0)
+      (λ left. sub_node (λ _ end x. make_binary q.1 end left x)
+      (sub_then (λ o. sub_before (level l)))) q.0)
 
 -- ---- expressions
 

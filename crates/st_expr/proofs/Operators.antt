@@ -22,16 +22,23 @@ kinds_of rank.And = k.And ∷ k.Ampersand ∷ []
 kinds_of rank.Xor = k.Xor ∷ []
 kinds_of rank.Or = k.Or ∷ []
 
-one : {V : ℕ → Type 0} (kind : TokenKind) (o : BinaryOperator) → Form V (p.operator_as kind o) (g.operator_as kind o) (kind ∷ []) []
+one : {V : ℕ → Type 0} (kind : TokenKind) (o : BinaryOperator)
+    → Form V (p.operator_as kind o) (g.operator_as kind o) (kind ∷ []) []
 unfolding p.operator_as
 one kind o = form_as (λ _. o) (form_token kind 0 1)
 
-pub form_operators : {V : ℕ → Type 0} (r : Rank) → Form V (p.operators r) (g.operators r) (kinds_of r) []
+pub form_operators : {V : ℕ → Type 0} (r : Rank)
+    → Form V (p.operators r) (g.operators r) (kinds_of r) []
 unfolding p.operators
-form_operators rank.Product = form_or k.Star (one k.Star op.Multiply) (form_or k.Slash (one k.Slash op.Divide) (one k.Mod op.Modulo) refl) refl
+form_operators rank.Product = form_or k.Star (one k.Star op.Multiply)
+    (form_or k.Slash (one k.Slash op.Divide) (one k.Mod op.Modulo) refl) refl
 form_operators rank.Sum = form_or k.Plus (one k.Plus op.Add) (one k.Minus op.Subtract) refl
-form_operators rank.Order = form_or k.Less (one k.Less op.Less) (form_or k.Greater (one k.Greater op.Greater) (form_or k.LessEqual (one k.LessEqual op.LessEqual) (one k.GreaterEqual op.GreaterEqual) refl) refl) refl
-form_operators rank.Equality = form_or k.Equal (one k.Equal op.Equal) (one k.NotEqual op.NotEqual) refl
+form_operators rank.Order = form_or k.Less (one k.Less op.Less)
+    (form_or k.Greater (one k.Greater op.Greater)
+    (form_or k.LessEqual (one k.LessEqual op.LessEqual) (one k.GreaterEqual op.GreaterEqual) refl)
+    refl) refl
+form_operators rank.Equality =
+    form_or k.Equal (one k.Equal op.Equal) (one k.NotEqual op.NotEqual) refl
 form_operators rank.And = form_or k.And (one k.And op.And) (one k.Ampersand op.And) refl
 form_operators rank.Xor = one k.Xor op.Xor
 form_operators rank.Or = one k.Or op.Or
@@ -48,9 +55,11 @@ last_is false = refl
 
 pub sees_rank : (r : Rank) (ts : List Lexeme) → p.sees_operator r ts ≡ sees_any (kinds_of r) ts
 unfolding p.sees_operator
-sees_rank rank.Product ts = or_is (sees_in k.Star ts) _ _ (or_is (sees_in k.Slash ts) _ _ (last_is (sees_in k.Mod ts)))
+sees_rank rank.Product ts =
+    or_is (sees_in k.Star ts) _ _ (or_is (sees_in k.Slash ts) _ _ (last_is (sees_in k.Mod ts)))
 sees_rank rank.Sum ts = or_is (sees_in k.Plus ts) _ _ (last_is (sees_in k.Minus ts))
-sees_rank rank.Order ts = or_is (sees_in k.Less ts) _ _ (or_is (sees_in k.Greater ts) _ _ (or_is (sees_in k.LessEqual ts) _ _ (last_is (sees_in k.GreaterEqual ts))))
+sees_rank rank.Order ts = or_is (sees_in k.Less ts) _ _ (or_is (sees_in k.Greater ts) _ _
+    (or_is (sees_in k.LessEqual ts) _ _ (last_is (sees_in k.GreaterEqual ts))))
 sees_rank rank.Equality ts = or_is (sees_in k.Equal ts) _ _ (last_is (sees_in k.NotEqual ts))
 sees_rank rank.And ts = or_is (sees_in k.And ts) _ _ (last_is (sees_in k.Ampersand ts))
 sees_rank rank.Xor ts = last_is (sees_in k.Xor ts)

@@ -1,5 +1,6 @@
--- The grammar of expressions and paths. Source: the textual grammar of IEC 61131-3:2013, narrowed to this profile. A rule that begins with a
--- name is written with the name first and what may follow it behind. The code descends by a look at the next token, or at the next two.
+-- The grammar of expressions and paths. Source: the textual grammar of IEC 61131-3:2013, narrowed
+-- to this profile. A rule that begins with a name is written with the name first and what may
+-- follow it behind. The code descends by a look at the next token, or at the next two.
 use Rattle.std.specs.Prelude.{ℕ, zero, suc, Bool, true, false, List, [], ◌∷◌, ◌++◌, Option, Some, None}
 use Rattle.token_grammar.specs.declared.token.TokenKind.{TokenKind}
 use Rattle.token_grammar.specs.declared.token.TokenKind.TheVariants as k
@@ -53,9 +54,11 @@ abbrev pub operator_as : TokenKind → BinaryOperator → Rule BinaryOperator
 operator_as kind o = operating kind >>= λ _. give o
 
 abbrev pub operators : Rank → Rule BinaryOperator
-operators rank.Product = operator_as k.Star op.Multiply or (operator_as k.Slash op.Divide or operator_as k.Mod op.Modulo)
+operators rank.Product = operator_as k.Star op.Multiply
+    or (operator_as k.Slash op.Divide or operator_as k.Mod op.Modulo)
 operators rank.Sum = operator_as k.Plus op.Add or operator_as k.Minus op.Subtract
-operators rank.Order = operator_as k.Less op.Less or (operator_as k.Greater op.Greater or (operator_as k.LessEqual op.LessEqual or operator_as k.GreaterEqual op.GreaterEqual))
+operators rank.Order = operator_as k.Less op.Less or (operator_as k.Greater op.Greater
+    or (operator_as k.LessEqual op.LessEqual or operator_as k.GreaterEqual op.GreaterEqual))
 operators rank.Equality = operator_as k.Equal op.Equal or operator_as k.NotEqual op.NotEqual
 operators rank.And = operator_as k.And op.And or operator_as k.Ampersand op.And
 operators rank.Xor = operator_as k.Xor op.Xor
@@ -63,7 +66,8 @@ operators rank.Or = operator_as k.Or op.Or
 
 -- one operator of a rank with what stands behind it
 abbrev pub step : Rule BinaryOperator → Rule Expr → ℕ → Expr → Rule Expr
-step operator operand start left = node (λ _ end q. make_binary start end left q) (operator >>= λ o. operand >>= λ x. give (o, x))
+step operator operand start left =
+    node (λ _ end q. make_binary start end left q) (operator >>= λ o. operand >>= λ x. give (o, x))
 
 -- "." name
 abbrev pub field : Rule Part
@@ -99,7 +103,8 @@ module _ (inner : Rule Expr) where
 
   -- "[" expr { "," expr } "]"
   abbrev pub index : Rule Part
-  index = node make_index (scoped (opening k.OpenBracket >>= λ _. exprs >>= λ xs. token k.CloseBracket >>= λ _. give xs))
+  index = node make_index (scoped (opening k.OpenBracket >>= λ _. exprs
+      >>= λ xs. token k.CloseBracket >>= λ _. give xs))
 
   abbrev pub more_parts : List Part → Rule (List Part)
   more_parts ps = (field or index) >>= λ p. give (ps ++ p ∷ [])
@@ -137,7 +142,8 @@ module _ (inner : Rule Expr) where
   value_ending name = token k.Hash >>= λ _. identifier >>= λ v. give (value_of name v)
 
   abbrev pub called : Rule (List Argument)
-  called = scoped (opening k.OpenParenthesis >>= λ _. arguments >>= λ found. token k.CloseParenthesis >>= λ _. give found)
+  called = scoped (opening k.OpenParenthesis >>= λ _. arguments
+      >>= λ found. token k.CloseParenthesis >>= λ _. give found)
 
   abbrev pub call_ending : Identifier → Rule Ending
   call_ending name = called >>= λ found. give (call_of name found)
@@ -146,13 +152,16 @@ module _ (inner : Rule Expr) where
   path_ending name = parts >>= λ ps. give (path_of (root.Name name) ps)
 
   abbrev pub named : Rule Expr
-  named = node ended (identifier >>= λ name. value_ending name or (call_ending name or path_ending name))
+  named = node ended (identifier
+      >>= λ name. value_ending name or (call_ending name or path_ending name))
 
   -- "(" expr ")"
   abbrev pub group : Rule Expr
-  group = node make_parenthesized (scoped (opening k.OpenParenthesis >>= λ _. inner >>= λ x. token k.CloseParenthesis >>= λ _. give x))
+  group = node make_parenthesized (scoped (opening k.OpenParenthesis >>= λ _. inner
+      >>= λ x. token k.CloseParenthesis >>= λ _. give x))
 
-  -- primary, but for a number: typed | time | TRUE | FALSE | path | name "#" name | "(" expr ")" | name "(" arguments ")"
+  -- primary, but for a number:
+  -- typed | time | TRUE | FALSE | path | name "#" name | "(" expr ")" | name "(" arguments ")"
   abbrev pub other : Rule Expr
   other = typed or (time or (truth k.True true or (truth k.False false
       or (group or ((located >>= λ p. give (expr.Path p)) or named)))))
@@ -160,12 +169,14 @@ module _ (inner : Rule Expr) where
   abbrev pub primary : Rule Expr
   primary = number or other
 
-  -- unary = [ "-" | NOT ] primary. A minus directly before a number makes one literal, and is an operator elsewhere.
+  -- unary = [ "-" | NOT ] primary
+  -- A minus directly before a number makes one literal, and is an operator elsewhere.
   abbrev pub literal_ending : Rule Ending
   literal_ending = word k.Number >>= λ text. give (literal_of text)
 
   abbrev pub signed : Rule Expr
-  signed = node ended (token k.Minus >>= λ _. literal_ending or (deeper other >>= λ x. give (negated_of x)))
+  signed = node ended (token k.Minus >>= λ _. literal_ending
+      or (deeper other >>= λ x. give (negated_of x)))
 
   abbrev pub inverted : Rule Expr
   inverted = node make_inverted (operating k.Not >>= λ _. primary)
@@ -173,10 +184,12 @@ module _ (inner : Rule Expr) where
   abbrev pub unary : Rule Expr
   unary = signed or (inverted or primary)
 
-  -- level 1 is product = unary { ( "*" | "/" | MOD ) unary }, and so on up to level 7, expr = xor { OR xor }
+  -- level 1 is product = unary { ( "*" | "/" | MOD ) unary }, and so on up to level 7,
+  -- expr = xor { OR xor }
   unfoldable pub level : ℕ → Rule Expr
   level zero = unary
-  level (suc n) = node from_start (level n) >>= λ q. many (step (operators (rank_of n)) (level n) q.1) q.0
+  level (suc n) =
+      node from_start (level n) >>= λ q. many (step (operators (rank_of n)) (level n) q.1) q.0
 
   -- operators count up to the end of the expression
   abbrev pub whole : Rule Expr

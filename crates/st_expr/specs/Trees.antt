@@ -1,4 +1,5 @@
--- The trees of expressions, made of the first byte, the byte after the last, and what is spelled between.
+-- The trees of expressions, made of the first byte, the byte after the last, and what is spelled
+-- between.
 use Rattle.std.specs.Prelude.{ℕ, Bool, true, if◌then◌else◌, nat_eq, List, Option}
 use Rattle.st_expr.specs.declared.rank.Rank.{Rank}
 use Rattle.st_expr.specs.declared.rank.Rank.TheVariants.{Product, Sum, Order, Equality, And, Xor, Or}
@@ -20,7 +21,9 @@ Text = List ℕ
 
 -- the rank of operators at a level, from 0, the tightest first
 unfoldable pub rank_of : ℕ → Rank
-rank_of n = if nat_eq n 0 then Product else (if nat_eq n 1 then Sum else (if nat_eq n 2 then Order else (if nat_eq n 3 then Equality else (if nat_eq n 4 then And else (if nat_eq n 5 then Xor else Or)))))
+rank_of n = if nat_eq n 0 then Product else (if nat_eq n 1 then Sum
+    else (if nat_eq n 2 then Order else (if nat_eq n 3 then Equality
+    else (if nat_eq n 4 then And else (if nat_eq n 5 then Xor else Or)))))
 
 -- what an expression that begins with a name, or a sign, turns out to be: a tree for each place
 abbrev pub Ending : Type 0

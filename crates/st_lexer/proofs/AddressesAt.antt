@@ -172,14 +172,14 @@ size_cases size (suc (suc (suc (suc (suc (suc i))))), lt, e) = absurd (omega (ar
 number_stays : (b : ℕ) → digit_or_dot b ≡ true → raised b ≡ b
 number_stays b e = grind (arith, nat_tests)
 
-numbers_stay : (xs : List ℕ) → list_all digit_or_dot xs ≡ true → map raised xs ≡ xs
+pub numbers_stay : (xs : List ℕ) → list_all digit_or_dot xs ≡ true → map raised xs ≡ xs
 numbers_stay [] h = refl
 numbers_stay (x ∷ xs) h = let parts = both (digit_or_dot x) (list_all digit_or_dot xs) h in ap (λ (y : ℕ). y ∷ map raised xs) (number_stays x parts.0) ∙ ap (λ (t : List ℕ). x ∷ t) (numbers_stay xs parts.1)
 
 number_back : (b c : ℕ) → raised b ≡ c → digit_or_dot c ≡ true → b ≡ c
 number_back b c e h = grind (arith, nat_tests)
 
-numbers_back : (xs ys : List ℕ) → map raised xs ≡ ys → list_all digit_or_dot ys ≡ true → xs ≡ ys
+pub numbers_back : (xs ys : List ℕ) → map raised xs ≡ ys → list_all digit_or_dot ys ≡ true → xs ≡ ys
 numbers_back [] [] e h = refl
 numbers_back [] (y ∷ ys) e h = absurd cc
 numbers_back (x ∷ xs) [] e h = absurd cc
@@ -188,7 +188,7 @@ numbers_back (x ∷ xs) (y ∷ ys) e h =
     let first = number_back x y (cons_first (raised x) y (map raised xs) ys e) parts.0 in
     ap (λ (z : ℕ). z ∷ xs) first ∙ ap (λ (t : List ℕ). y ∷ t) (numbers_back xs ys (cons_rest (raised x) y (map raised xs) ys e) parts.1)
 
-numbers_some : (bytes : List ℕ) (j : ℕ) → numbers_at bytes ≡ Some j → (j ≤ length bytes) × (is_joined is_digit 46 (take j bytes) ≡ true)
+pub numbers_some : (bytes : List ℕ) (j : ℕ) → numbers_at bytes ≡ Some j → (j ≤ length bytes) × (is_joined is_digit 46 (take j bytes) ≡ true)
 numbers_some bytes j e = by (begins is_digit bytes) refl e
   where
     by : (v : Bool) → begins is_digit bytes ≡ v → cond v (Some (numbers_length bytes)) None ≡ Some j → (j ≤ length bytes) × (is_joined is_digit 46 (take j bytes) ≡ true)
@@ -263,7 +263,7 @@ address_some bytes m e = by (begins is_area bytes) (begins is_size (drop 1 bytes
 
 -- ---- an address that stands there
 
-numbers_read : (xs rest : List ℕ) → is_joined is_digit 46 xs ≡ true → numbers_at (xs ++ rest) ≡ Some (numbers_length (xs ++ rest))
+pub numbers_read : (xs rest : List ℕ) → is_joined is_digit 46 xs ≡ true → numbers_at (xs ++ rest) ≡ Some (numbers_length (xs ++ rest))
 numbers_read xs rest e = rw (begins_front is_digit xs rest (joined is_digit 46 xs e).first) refl
 
 digit_no_size : (xs rest : List ℕ) → begins is_digit xs ≡ true → begins is_size (xs ++ rest) ≡ false

@@ -67,7 +67,7 @@ pub record Parts (above left : ℕ) (bytes : List ℕ) (m : ℕ) : Type 0 where
   pub within : m ≤ length bytes
   pub stops : begins in_word (drop m bytes) ≡ false
 
-link_is : (bytes : List ℕ) → Contains ([] ∷ codes "_" ∷ []) (take (link_length bytes) bytes)
+pub link_is : (bytes : List ℕ) → Contains ([] ∷ codes "_" ∷ []) (take (link_length bytes) bytes)
 link_is [] = (0, omega arith, refl)
 link_is (b ∷ bytes) = by (nat_eq 95 b) refl
   where
@@ -163,7 +163,7 @@ plain_link : (further : List ℕ) → begins is_digit further ≡ true → Linke
 plain_link [] e = absurd cc
 plain_link (b ∷ bs) e = record { stops = digit_no_letter b e; goes = digit_in_word b e; count = rw (digit_no_line b e) refl }
 
-linked : (link further : List ℕ) → Contains ([] ∷ codes "_" ∷ []) link → begins is_digit further ≡ true → Linked link further
+pub linked : (link further : List ℕ) → Contains ([] ∷ codes "_" ∷ []) link → begins is_digit further ≡ true → Linked link further
 linked link further h e = by (one_of_two [] (codes "_") link h)
   where
     by : ([] ≡ link) ⊎ (codes "_" ≡ link) → Linked link further
@@ -195,7 +195,7 @@ longest_by n above left bytes m s = by s.further
     by (inr (a, b, (j, c, e))) = omega (arith, e)
 
 -- what is left of bytes behind a front of that length
-left_over : (bytes front rest : List ℕ) (n : ℕ) → bytes ≡ front ++ rest → n ≡ length front → drop n bytes ≡ rest
+pub left_over : (bytes front rest : List ℕ) (n : ℕ) → bytes ≡ front ++ rest → n ≡ length front → drop n bytes ≡ rest
 left_over bytes front rest n e len = ap (λ (k : ℕ). drop k bytes) len ∙ ap (drop (length front)) e ∙ drop_front front rest
 
 pub parts_bound : (n above left : ℕ) (bytes : List ℕ) (m : ℕ) (text rest : List ℕ) (q : Part) (ps : List Part) → parts_at n above left bytes ≡ Some m → bytes ≡ text ++ rest → ArePartsOf (q ∷ ps) text → length text ≤ m

@@ -1,4 +1,5 @@
 mod Tests
+mod Tables
 mod Spaced
 mod Closing
 mod Keywords
@@ -24,3 +25,11 @@ mod Cuts
 mod Utf8
 mod CutLaws
 mod Places
+mod PartValues
+mod NumberValues
+mod ByReading
+mod TypedValues
+mod AddressValues
+mod TimeValues
+mod TokenTexts
+mod ValuesOfTokens

@@ -15,7 +15,8 @@ use Rattle.st_lexer.specs.Texts.{IsText, keyword_kinds, keywords, marks, is_word
 use Rattle.st_lexer.specs.Faulty as faulty
 use Rattle.st_lexer.specs.Faulty.{IsOpen, IsBadName, BeginsLiteral, IsBadNumber, IsBadByte, IsFaulty}
 use Rattle.st_lexer.specs.Front.{lead_of}
-use Rattle.st_lexer.proofs.Tests.{equal, both, clash}
+use Rattle.st_lexer.proofs.Tests.{equal, clash, or_right}
+use Rattle.st_lexer.proofs.Tables.{distinct, one_row}
 use Rattle.st_lexer.proofs.Runs.{front_is, all_of_append}
 use Rattle.st_lexer.proofs.Leads.{each_row, all_letters, type_letters, time_letters, TypedSplit, TimeSplit, keyword_plain, digit_lead}
 use Rattle.st_lexer.proofs.LeadTexts as led
@@ -25,10 +26,6 @@ use Rattle.st_lexer.proofs.RightWords.{apart, letters_spaced}
 
 -- ---- tables whose texts differ
 
-distinct : List (TokenKind × List ℕ) → Bool
-distinct [] = true
-distinct (r ∷ rows) = not (list_any (λ s. bytes_eq r.1 s.1) rows) && distinct rows
-
 keywords_differ : distinct keywords ≡ true
 unfolding distinct
 keywords_differ = refl
@@ -37,31 +34,9 @@ marks_differ : distinct marks ≡ true
 unfolding distinct
 marks_differ = refl
 
-or_right : (v : Bool) → (v || true) ≡ true
-or_right true = refl
-or_right false = refl
-
-any_there : (t : List ℕ) (rows : List (TokenKind × List ℕ)) (j : TokenKind) → Contains rows (j, t) → list_any (λ s. bytes_eq t s.1) rows ≡ true
-any_there t [] j (i, lt, e) = absurd (omega (arith, lt))
-any_there t (r ∷ rows) j (zero, lt, e) = rw (equal t r.1 (sym (ap (λ (x : TokenKind × List ℕ). x.1) e))) refl
-any_there t (r ∷ rows) j (suc i, lt, e) = rw (any_there t rows j (i, omega (arith, lt), e)) (or_right (bytes_eq t r.1))
-
 not_true : (v : Bool) → not v ≡ true → v ≡ true → ⊥
 not_true true a b = cc
 not_true false a b = cc
-
-one_row : (rows : List (TokenKind × List ℕ)) (t : List ℕ) (j k : TokenKind) → distinct rows ≡ true → Contains rows (j, t) → Contains rows (k, t) → j ≡ k
-unfolding distinct
-one_row [] t j k d (i, lt, e) y = absurd (omega (arith, lt))
-one_row (r ∷ rows) t j k d (zero, lt, e) (zero, lt2, e2) = sym (ap (λ (x : TokenKind × List ℕ). x.0) e) ∙ ap (λ (x : TokenKind × List ℕ). x.0) e2
-one_row (r ∷ rows) t j k d (zero, lt, e) (suc i, lt2, e2) =
-    absurd (not_true (list_any (λ s. bytes_eq r.1 s.1) rows) (both (not (list_any (λ s. bytes_eq r.1 s.1) rows)) (distinct rows) d).0
-    (ap (λ (x : List ℕ). list_any (λ s. bytes_eq x s.1) rows) (ap (λ (x : TokenKind × List ℕ). x.1) e) ∙ any_there t rows k (i, omega (arith, lt2), e2)))
-one_row (r ∷ rows) t j k d (suc i, lt, e) (zero, lt2, e2) =
-    absurd (not_true (list_any (λ s. bytes_eq r.1 s.1) rows) (both (not (list_any (λ s. bytes_eq r.1 s.1) rows)) (distinct rows) d).0
-    (ap (λ (x : List ℕ). list_any (λ s. bytes_eq x s.1) rows) (ap (λ (x : TokenKind × List ℕ). x.1) e2) ∙ any_there t rows j (i, omega (arith, lt), e)))
-one_row (r ∷ rows) t j k d (suc i, lt, e) (suc i2, lt2, e2) =
-    one_row rows t j k (both (not (list_any (λ s. bytes_eq r.1 s.1) rows)) (distinct rows) d).1 (i, omega (arith, lt), e) (i2, omega (arith, lt2), e2)
 
 -- a reserved word is no name
 row_word : (kinds : List TokenKind) (words : List (List ℕ)) (k : TokenKind) (t : List ℕ) → Contains (zip kinds words) (k, t) → list_any (bytes_eq t) words ≡ true

@@ -1,5 +1,5 @@
 -- What reads a time reads the same of letters in either case.
-use Rattle.std.proofs.Common.{◌≡◌, ℕ, zero, suc, ◌+◌, ◌-◌, ◌*◌, ◌^◌, Bool, true, false, cond, ◌&&◌, ltb, leb, List, [], ◌∷◌, length, map, take, drop, Option, Some, None, refl, ap, ◌∙◌, arith}
+use Rattle.std.proofs.Common.{◌≡◌, ℕ, zero, suc, ◌+◌, ◌-◌, ◌*◌, ◌^◌, Bool, true, false, cond, ◌&&◌, ltb, leb, List, [], ◌∷◌, ◌++◌, length, map, take, drop, Option, Some, None, refl, ap, ◌∙◌, arith}
 use Rattle.std.specs.Prelude.{nat_eq}
 use Rattle.std.specs.List.{prefix_len}
 use Rattle.std.proofs.lemmas.Bool.Decides.{nat_tests}
@@ -8,7 +8,7 @@ use Rattle.st_lexer.specs.declared.times.Part.{Part}
 use Rattle.st_lexer.specs.Bytes.{is_alphabetic, is_digit, in_word, begins}
 use Rattle.st_lexer.specs.Front.{and_then, whole_length, fraction_at, letters_length, unit_size, value_on, part_of, part_at, parts_at, link_length, longer, time_at, above_units}
 
-raised_digit : (b : ℕ) → is_digit (raised b) ≡ is_digit b
+pub raised_digit : (b : ℕ) → is_digit (raised b) ≡ is_digit b
 raised_digit b = grind (arith, nat_tests)
 
 raised_alphabetic : (b : ℕ) → is_alphabetic (raised b) ≡ is_alphabetic b
@@ -39,6 +39,10 @@ all_twice (b ∷ bs) = ap (λ (x : ℕ). x ∷ map raised (map raised bs)) (rais
 pub length_raised : (bs : List ℕ) → length (map raised bs) ≡ length bs
 length_raised [] = refl
 length_raised (b ∷ bs) = ap suc (length_raised bs)
+
+pub raised_append : (xs ys : List ℕ) → map raised (xs ++ ys) ≡ map raised xs ++ map raised ys
+raised_append [] ys = refl
+raised_append (x ∷ xs) ys = ap (λ (z : List ℕ). raised x ∷ z) (raised_append xs ys)
 
 pub take_raised : (n : ℕ) (bs : List ℕ) → take n (map raised bs) ≡ map raised (take n bs)
 take_raised zero bs = refl
@@ -110,7 +114,7 @@ rest_raised bytes point =
     ap (λ (n : ℕ). value_on 0 (take (n + point) (map raised bytes))) w ∙ ap (value_on 0) (take_raised k bytes) ∙ value_raised 0 (take k bytes) in
     rw (u, v, l, w) refl
 
-part_raised : (bytes : List ℕ) → part_at (map raised bytes) ≡ part_at bytes
+pub part_raised : (bytes : List ℕ) → part_at (map raised bytes) ≡ part_at bytes
 unfolding part_at
 part_raised bytes =
     let w = whole_raised bytes in
@@ -122,7 +126,7 @@ part_raised bytes =
     by None = refl
     by (Some point) = rest_raised bytes point
 
-link_raised : (bs : List ℕ) → link_length (map raised bs) ≡ link_length bs
+pub link_raised : (bs : List ℕ) → link_length (map raised bs) ≡ link_length bs
 link_raised bs = rw (begins_raised (nat_eq 95) raised_line bs) refl
 
 pub parts_raised : (n above left : ℕ) (bytes : List ℕ) → parts_at n above left (map raised bytes) ≡ parts_at n above left bytes

@@ -27,7 +27,8 @@ use Rattle.st_lexer.proofs.LeadTexts.{LetterText, may_open, open_lead}
 use Rattle.st_lexer.proofs.Numerals.{hashed, take_suc, drop_suc, hash_first}
 use Rattle.st_lexer.proofs.TypedNumbers.{TypedEnds, number_ends, truth_ends, typed_some, typed_bound, typed_found}
 use Rattle.st_lexer.proofs.TimesAt.{time_some, time_bound, time_found}
-use Rattle.st_lexer.proofs.Standing.{Stands, stands, found_there}
+use Rattle.st_lexer.proofs.Standing.{Stands, stands}
+use Rattle.st_lexer.proofs.Tables.{found_there}
 use Rattle.st_lexer.proofs.Right.{led_text}
 
 abbrev time_words : List (List ℕ)

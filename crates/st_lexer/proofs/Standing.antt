@@ -1,6 +1,5 @@
 -- What stands at the front, as the definition says, and what serves each lead.
-use Rattle.std.proofs.Common.{◌≡◌, ℕ, zero, suc, ◌<◌, ◌≤◌, Bool, true, false, cond, leb, List, [], ◌∷◌, ◌++◌, length, take, drop, Option, Some, None, refl, sym, ap, subst, ◌∙◌, arith}
-use Rattle.std.specs.Prelude.{bytes_eq}
+use Rattle.std.proofs.Common.{◌≡◌, ℕ, ◌<◌, ◌≤◌, true, false, leb, List, [], ◌∷◌, ◌++◌, length, take, drop, Option, Some, None, refl, sym, ap, subst, ◌∙◌, arith}
 use Rattle.std.specs.List.{list_all, Contains}
 use Rattle.std.proofs.lemmas.Bool.{leb-true}
 use Rattle.std.proofs.lemmas.List.{length-append, length-take}
@@ -14,7 +13,8 @@ use Rattle.st_lexer.specs.Texts.{IsText, marks}
 use Rattle.st_lexer.specs.Faulty.{HasNoFault, IsFaulty}
 use Rattle.st_lexer.specs.Cut.{IsLongest, IsToken}
 use Rattle.st_lexer.specs.Front.{found_in, long_mark, short_mark, long_or, mark_at, lead_of}
-use Rattle.st_lexer.proofs.Tests.{same, equal, clash}
+use Rattle.st_lexer.proofs.Tables.{found_there, found_missing}
+use Rattle.st_lexer.proofs.Tests.{clash}
 use Rattle.st_lexer.proofs.Runs.{split_at, cons_first, cons_rest}
 use Rattle.st_lexer.proofs.Leads.{each_row}
 use Rattle.st_lexer.proofs.LeadTexts.{may_open, may_name, may_number, open_lead, name_lead, number_lead, text_some}
@@ -51,30 +51,6 @@ no_fault b bs l e o n m = record {
   no_bad_name = λ h. clash (may_name l) (ap may_name (sym e) ∙ name_lead b bs h) n;
   no_bad_number = λ h. clash (may_number l) (ap may_number (sym e) ∙ number_lead b bs h) m;
 }
-
--- ---- tables
-
-pub found_there : (rows : List (TokenKind × List ℕ)) (text : List ℕ) (v : TokenKind) → found_in rows text ≡ Some v → Contains rows (v, text)
-found_there [] text v e = absurd cc
-found_there (row ∷ rows) text v e = by (bytes_eq text row.1) refl e (found_there rows text v)
-  where
-    by : (t : Bool) → bytes_eq text row.1 ≡ t → cond t (Some row.0) (found_in rows text) ≡ Some v → (found_in rows text ≡ Some v → Contains rows (v, text)) → Contains (row ∷ rows) (v, text)
-    by true is h more =
-        let v_is : row.0 ≡ v = cc in
-        (0, omega arith, ap (λ (x : List ℕ). (row.0, x)) (sym (same text row.1 is)) ∙ ap (λ (a : TokenKind). (a, text)) v_is)
-    by false is h more = let c = more h in (suc c.0, omega (arith, c.1), c.2)
-
-pub found_missing : (rows : List (TokenKind × List ℕ)) (text : List ℕ) (v : TokenKind) → found_in rows text ≡ None → Contains rows (v, text) → ⊥
-found_missing [] text v e (i, lt, at) = absurd (omega (arith, lt))
-found_missing (row ∷ rows) text v e (zero, lt, at) =
-    let is : bytes_eq text row.1 ≡ true = equal text row.1 (sym (ap (λ (r : TokenKind × List ℕ). r.1) at)) in
-    let h : cond true (Some row.0) (found_in rows text) ≡ None = ap (λ (t : Bool). cond t (Some row.0) (found_in rows text)) (sym is) ∙ e in
-    cc
-found_missing (row ∷ rows) text v e (suc i, lt, at) = by (bytes_eq text row.1) refl e (λ h. found_missing rows text v h (i, omega (arith, lt), at))
-  where
-    by : (t : Bool) → bytes_eq text row.1 ≡ t → cond t (Some row.0) (found_in rows text) ≡ None → (found_in rows text ≡ None → ⊥) → ⊥
-    by true is h more = cc
-    by false is h more = more h
 
 -- ---- marks
 

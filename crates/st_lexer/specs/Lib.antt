@@ -7,3 +7,6 @@ pub mod Front
 pub mod Answers
 pub mod Placed
 pub mod Laws
+pub mod Values
+pub mod ValueLaws
+pub mod steps

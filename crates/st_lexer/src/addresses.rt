@@ -50,7 +50,7 @@ fn begins_size(bytes: &[u8]) -> bool
 }
 
 /// The length of numbers that are joined by single dots.
-fn numbers_at(bytes: &[u8]) -> Option<usize>
+pub(crate) fn numbers_at(bytes: &[u8]) -> Option<usize>
     ensures value { result ≡ fronts.numbers_at bytes.now }
     ensures within { IfSome result (λ n. n ≤ length bytes.now) }
 {

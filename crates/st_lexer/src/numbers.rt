@@ -4,6 +4,7 @@ ghost use Rattle.std.specs.Prelude.{◌≡◌, ◌≤◌, ◌+◌, ◌*◌, true
 ghost use Rattle.st_lexer.specs.Faulty as faulty;
 ghost use Rattle.st_lexer.specs.Front as fronts;
 ghost use Rattle.st_lexer.specs.Bytes as spec;
+ghost use Rattle.st_lexer.specs.steps.Readings as readings;
 
 use crate::bytes::{begins_digit, begins_with, word_length, worth};
 use crate::words::{is_bool_word, is_truth};
@@ -67,10 +68,19 @@ fn is_fraction(bytes: &[u8]) -> bool
 }
 
 /// Whether the bytes are digits in the base, single underscores between them, of a number below 2^128.
-#[tactic(auto, unfolding(crate::specs::Front::goes_on))]
 fn is_numeral(base: u8, bytes: &[u8]) -> bool
     requires { base ≤ 16 }
     ensures { result ≡ fronts.goes_on base true 0 bytes.now }
+{
+    read_numeral(base, bytes).is_some()
+}
+
+/// The number that the bytes are, where they are digits in the base, single underscores between them,
+/// of a number below 2^128.
+#[tactic(auto, unfolding(crate::specs::Front::goes_on))]
+fn read_numeral(base: u8, bytes: &[u8]) -> Option<u128>
+    requires { base ≤ 16 }
+    ensures { result ≡ readings.read_numeral base bytes.now }
 {
     let mut after = true;
     let mut value = 0u128;
@@ -78,23 +88,33 @@ fn is_numeral(base: u8, bytes: &[u8]) -> bool
     'digit: while let Some((byte, others)) = rest.split_first() {
         if *byte == b'_' {
             if after {
-                return false;
+                return None;
             }
             after = true;
         } else {
             let digit = worth(*byte);
             if digit >= base {
-                return false;
+                return None;
             }
-            match one_more(base, value, digit) {
-                None => return false,
-                Some(more) => value = more,
-            }
+            value = one_more(base, value, digit)?;
             after = false;
         }
         rest = others;
     }
-    !after
+    if after { None } else { Some(value) }
+}
+
+/// The value of a text that is a number as a whole.
+#[tactic(auto, unfolding(crate::specs::steps::Readings::read_number))]
+pub(crate) fn read_number(text: &[u8]) -> Option<u128>
+    ensures { result ≡ readings.read_number text.now }
+{
+    match text {
+        [b'2', b'#', digits @ ..] => read_numeral(2, digits),
+        [b'8', b'#', digits @ ..] => read_numeral(8, digits),
+        [b'1', b'6', b'#', digits @ ..] => read_numeral(16, digits),
+        _ => read_numeral(10, text),
+    }
 }
 
 /// The value with one more digit, where it stays below 2^128.

@@ -1,9 +1,13 @@
 // Times: how long they are, where they stand whole.
 
-ghost use Rattle.std.specs.Prelude.{◌≡◌, ◌≤◌, ◌<◌, ◌^◌, ◌+◌, ℕ, length, IfSome};
+ghost use Rattle.std.specs.Prelude.{◌≡◌, ◌≤◌, ◌<◌, ◌^◌, ◌+◌, ℕ, ◌-◌, length, IfSome};
 ghost use Rattle.st_lexer.specs.Front as fronts;
+ghost use Rattle.st_lexer.specs.steps.Readings as readings;
 
-use crate::bytes::{begins_with, begins_word_byte, digits_length, is_digit, letters_length};
+use crate::bytes::{
+    begins_with, begins_word_byte, digits_length, is_digit, letters_length, word_length,
+};
+use crate::words::is_time_word;
 
 /// A part of a time: its length in bytes, the milliseconds of its unit and its own, and whether no further part may follow, since it has a fraction.
 #[derive(Clone, Copy, Debug, PartialEq, Eq)]
@@ -52,6 +56,69 @@ fn parts_at(above: u128, left: u128, bytes: &[u8]) -> Option<usize>
     let next = part.length + link_length(rest);
     let more = parts_at(part.size, left - part.value, &bytes[next..])?;
     Some(next + more)
+}
+
+/// The milliseconds of a text that is a time as a whole.
+#[tactic(auto, unfolding(crate::specs::steps::Readings::read_time))]
+pub(crate) fn read_time(text: &[u8]) -> Option<i64>
+    ensures { result ≡ readings.read_time text.now }
+{
+    let length = word_length(text);
+    if is_time_word(&text[..length]) {
+        behind_word(&text[length..])
+    } else {
+        None
+    }
+}
+
+/// The milliseconds of what follows the `T` or `TIME` of a time.
+fn behind_word(rest: &[u8]) -> Option<i64>
+    ensures { result ≡ readings.behind_word rest.now }
+{
+    match rest {
+        [b'#', b'-', parts @ ..] => read_negative(parts),
+        [b'#', parts @ ..] => read_positive(parts),
+        _ => None,
+    }
+}
+
+/// The milliseconds of parts behind a minus.
+fn read_negative(parts: &[u8]) -> Option<i64>
+    ensures { result ≡ readings.as_negative (readings.whole_parts (2 ^ 63) parts.now) }
+{
+    let size = read_parts(ABOVE_UNITS, 1 << 63, parts)?;
+    Some((-(size as i128)) as i64)
+}
+
+/// The milliseconds of parts without a minus.
+fn read_positive(parts: &[u8]) -> Option<i64>
+    ensures { result ≡ readings.as_positive (readings.whole_parts (2 ^ 63 - 1) parts.now) }
+{
+    let size = read_parts(ABOVE_UNITS, (1 << 63) - 1, parts)?;
+    Some(size as i64)
+}
+
+/// The milliseconds of bytes that are parts as a whole: units are below `above` and fall, and the
+/// sum is `left` at most.
+#[tactic(auto, unfolding(crate::specs::steps::Readings::read_parts))]
+fn read_parts(above: u128, left: u128, bytes: &[u8]) -> Option<u128>
+    ensures value { (n : ℕ) → length bytes.now < n → result ≡ readings.read_parts n above left bytes.now }
+    ensures small { IfSome result (λ sum. sum ≤ left) }
+{
+    let part = part_at(bytes)?;
+    if part.size >= above || part.value > left {
+        return None;
+    }
+    let rest = &bytes[part.length..];
+    if rest.is_empty() {
+        return Some(part.value);
+    }
+    if part.last {
+        return None;
+    }
+    let further = &rest[link_length(rest)..];
+    let more = read_parts(part.size, left - part.value, further)?;
+    Some(part.value + more)
 }
 
 /// The length of an underscore at the front, or of nothing.

@@ -5,7 +5,9 @@ ghost use Rattle.iec_tables.specs.Letters.{raised};
 ghost use Rattle.st_lexer.specs.Bytes as spec;
 ghost use Rattle.st_lexer.specs.Texts.{is_word_of, keyword_kinds, type_words};
 ghost use Rattle.st_lexer.specs.Front as fronts;
+ghost use Rattle.st_lexer.specs.Values.{named_types, with_names};
 
+use iec_tables::elem::Elem;
 use iec_tables::letters::raise;
 use iec_tables::words::keywords;
 use token_grammar::TokenKind;
@@ -94,6 +96,23 @@ const KEYWORD_KINDS: [TokenKind; 80] = [
     TokenKind::Xor,
 ];
 
+/// The types that a typed number may name: all but TIME.
+const TYPES: [Elem; 13] = [
+    Elem::Sint,
+    Elem::Int,
+    Elem::Dint,
+    Elem::Lint,
+    Elem::Usint,
+    Elem::Uint,
+    Elem::Udint,
+    Elem::Ulint,
+    Elem::Bool,
+    Elem::Byte,
+    Elem::Word,
+    Elem::Dword,
+    Elem::Lword,
+];
+
 /// The kind of a word that begins like a name: that of a reserved word, else a name.
 #[tactic(auto, unfolding(crate::specs::Front::word_kind))]
 pub(crate) fn word_kind(word: &[u8]) -> TokenKind
@@ -143,7 +162,7 @@ pub(crate) fn is_spaced(word: &[u8]) -> bool
 }
 
 /// Whether the word, its letters raised, is this text.
-fn is_same(word: &[u8], text: &[u8]) -> bool
+pub(crate) fn is_same(word: &[u8], text: &[u8]) -> bool
     ensures { result ≡ bytes_eq (map raised word.now) text.now }
 {
     match word {
@@ -159,19 +178,30 @@ fn is_same(word: &[u8], text: &[u8]) -> bool
 pub(crate) fn is_type_word(word: &[u8]) -> bool
     ensures { result ≡ is_word_of type_words word.now }
 {
-    is_same(word, b"SINT")
-        || is_same(word, b"INT")
-        || is_same(word, b"DINT")
-        || is_same(word, b"LINT")
-        || is_same(word, b"USINT")
-        || is_same(word, b"UINT")
-        || is_same(word, b"UDINT")
-        || is_same(word, b"ULINT")
-        || is_same(word, b"BOOL")
-        || is_same(word, b"BYTE")
-        || is_same(word, b"WORD")
-        || is_same(word, b"DWORD")
-        || is_same(word, b"LWORD")
+    named_type(word).is_some()
+}
+
+/// The type other than TIME of that name.
+pub(crate) fn named_type(word: &[u8]) -> Option<Elem>
+    ensures { result ≡ fronts.found_in named_types (map raised word.now) }
+{
+    type_among(&TYPES, word)
+}
+
+/// The first of these types whose name the word is.
+fn type_among(types: &[Elem], word: &[u8]) -> Option<Elem>
+    ensures { result ≡ fronts.found_in (with_names types.now) (map raised word.now) }
+{
+    match types {
+        [] => None,
+        [elem, others @ ..] => {
+            if is_same(word, elem.name().as_bytes()) {
+                Some(*elem)
+            } else {
+                type_among(others, word)
+            }
+        }
+    }
 }
 
 /// Whether a time follows this word and a `#`.

@@ -11,7 +11,8 @@ use Rattle.st_statements.proofs.SimpleStatements.{Shallow}
 use Rattle.st_statements.proofs.ReadingForms.{statement_kinds, exact_nested_body, level_nested_body, loose_nested_body}
 use Rattle.st_statements.proofs.SameStatements.{to_reading, from_reading}
 
--- Statements that may nest at least as deep as the number, as they are read, are those of the grammar.
+-- Statements that may nest at least as deep as the number, as they are read, are those of the
+-- grammar.
 from_depth : (k : ℕ) → SameRule (some_of (λ n. reading.body (reading.nested (k + n)))) g.statements
 from_depth k = record {
   to = sub_some_of (λ n. suc (k + n)) (λ n. from_reading (k + n));
@@ -19,7 +20,8 @@ from_depth k = record {
 }
 
 pub exact_statements : Exact Shallow (p.body (p.nested 257)) g.statements (sees_any statement_kinds)
-exact_statements = exact_as (from_depth 258) (exact_some_of (λ n. exact_nested_body 257 (258 + n) (omega arith)))
+exact_statements =
+    exact_as (from_depth 258) (exact_some_of (λ n. exact_nested_body 257 (258 + n) (omega arith)))
 
 pub level_statements : IsLevel g.statements
 level_statements = level_sub (from_depth 0).from (level_some_of (λ n. level_nested_body (0 + n)))

@@ -1,5 +1,6 @@
--- The grammar of statements. Source: the textual grammar of IEC 61131-3:2013, narrowed to this profile. The code descends by a look at the next
--- token, and reads a leading name before it knows whether a call, an assignment or a label follows (steps/Reading).
+-- The grammar of statements. Source: the textual grammar of IEC 61131-3:2013, narrowed to this
+-- profile. The code descends by a look at the next token, and reads a leading name before it knows
+-- whether a call, an assignment or a label follows (steps/Reading).
 use Rattle.std.specs.Prelude.{ℕ, zero, suc, true, false, List, [], ◌∷◌, ◌++◌, Option, Some, None}
 use Rattle.token_grammar.specs.declared.token.TokenKind.TheVariants as k
 use Rattle.token_grammar.specs.Grammar.{Rule, ◌>>=◌, ◌or◌, give, token, scoped, node, many}
@@ -20,7 +21,8 @@ use Rattle.st_statements.specs.Trees.{ArgumentEnding, argument_ended, input_of, 
 
 -- path ":=" expr ";"
 abbrev pub assign : Rule Stmt
-assign = node make_assign (path expression >>= λ target. token k.Becomes >>= λ _. expression >>= λ x. token k.Semicolon >>= λ _. give (target, x))
+assign = node make_assign (path expression >>= λ target. token k.Becomes
+    >>= λ _. expression >>= λ x. token k.Semicolon >>= λ _. give (target, x))
 
 -- arg = name ":=" expr | name "=>" path
 abbrev pub input : Identifier → Rule ArgumentEnding
@@ -40,11 +42,13 @@ abbrev pub arguments : Rule (List StmtArgument)
 arguments = (argument >>= λ a. many more_arguments (a ∷ [])) or give []
 
 abbrev pub called : Rule (List StmtArgument)
-called = scoped (opening k.OpenParenthesis >>= λ _. arguments >>= λ found. token k.CloseParenthesis >>= λ _. give found)
+called = scoped (opening k.OpenParenthesis >>= λ _. arguments
+    >>= λ found. token k.CloseParenthesis >>= λ _. give found)
 
 -- name "(" [ arg { "," arg } ] ")" ";"
 abbrev pub call : Rule Stmt
-call = node make_call (identifier >>= λ name. called >>= λ found. token k.Semicolon >>= λ _. give (name, found))
+call = node make_call (identifier >>= λ name. called >>= λ found. token k.Semicolon
+    >>= λ _. give (name, found))
 
 -- RETURN ";" | EXIT ";" | CONTINUE ";"
 abbrev pub return_stmt : Rule Stmt
@@ -72,7 +76,8 @@ abbrev pub value_point : Rule Point
 value_point = negative_point or (number_point or typed_point)
 
 abbrev pub point_behind : Identifier → Rule Point
-point_behind name = (token k.Hash >>= λ _. identifier >>= λ v. give (point_value name v)) or give (point.Name name)
+point_behind name = (token k.Hash >>= λ _. identifier >>= λ v. give (point_value name v))
+    or give (point.Name name)
 
 abbrev pub named_point : Rule Point
 named_point = identifier >>= point_behind
@@ -82,14 +87,17 @@ any_point = named_point or value_point
 
 -- point [ ".." point ]
 abbrev pub label_behind : Point → Rule Label
-label_behind first = (token k.DotDot >>= λ _. any_point >>= λ last. give (range_to first last)) or give (single first)
+label_behind first = (token k.DotDot >>= λ _. any_point >>= λ last. give (range_to first last))
+    or give (single first)
 
 abbrev pub more_labels : List Label → Rule (List Label)
-more_labels ls = token k.Comma >>= λ _. any_point >>= λ first. label_behind first >>= λ l. give (ls ++ l ∷ [])
+more_labels ls =
+    token k.Comma >>= λ _. any_point >>= λ first. label_behind first >>= λ l. give (ls ++ l ∷ [])
 
 -- a first point, then [ ".." point ] { "," point [ ".." point ] } ":"
 abbrev pub labels_behind : Point → Rule (List Label)
-labels_behind first = label_behind first >>= λ l. many more_labels (l ∷ []) >>= λ ls. token k.Colon >>= λ _. give ls
+labels_behind first =
+    label_behind first >>= λ l. many more_labels (l ∷ []) >>= λ ls. token k.Colon >>= λ _. give ls
 
 abbrev pub labels : Rule (List Label)
 labels = any_point >>= labels_behind
@@ -104,7 +112,8 @@ start = identifier >>= λ name. token k.Becomes >>= λ _. expression >>= λ firs
 
 -- name ":=" expr TO expr [ BY expr ]
 abbrev pub counter : Rule Counter
-counter = start >>= λ s. token k.To >>= λ _. expression >>= λ last. step >>= λ by. give (counter_of s last by)
+counter = start >>= λ s. token k.To >>= λ _. expression >>= λ last. step
+    >>= λ by. give (counter_of s last by)
 
 -- ---- structured statements, over lists of statements
 
@@ -126,19 +135,23 @@ module _ (body : Rule (List Stmt)) where
 
   -- IF expr THEN statements { ELSIF expr THEN statements } [ ELSE statements ] END_IF
   abbrev pub choice : Rule Stmt
-  choice = scoped (node make_if (opening k.If >>= λ _. some_branches >>= λ found. otherwise >>= λ last. token k.EndIf >>= λ _. give (found, last)))
+  choice = scoped (node make_if (opening k.If >>= λ _. some_branches
+      >>= λ found. otherwise >>= λ last. token k.EndIf >>= λ _. give (found, last)))
 
   -- FOR name ":=" expr TO expr [ BY expr ] DO statements END_FOR
   abbrev pub counted : Rule Stmt
-  counted = scoped (node make_for (opening k.For >>= λ _. counter >>= λ c. token k.Do >>= λ _. body >>= λ b. token k.EndFor >>= λ _. give (c, b)))
+  counted = scoped (node make_for (opening k.For >>= λ _. counter
+      >>= λ c. token k.Do >>= λ _. body >>= λ b. token k.EndFor >>= λ _. give (c, b)))
 
   -- WHILE expr DO statements END_WHILE
   abbrev pub while_stmt : Rule Stmt
-  while_stmt = scoped (node make_while (opening k.While >>= λ _. expression >>= λ c. token k.Do >>= λ _. body >>= λ b. token k.EndWhile >>= λ _. give (c, b)))
+  while_stmt = scoped (node make_while (opening k.While >>= λ _. expression
+      >>= λ c. token k.Do >>= λ _. body >>= λ b. token k.EndWhile >>= λ _. give (c, b)))
 
   -- REPEAT statements UNTIL expr END_REPEAT
   abbrev pub repeat_stmt : Rule Stmt
-  repeat_stmt = scoped (node make_repeat (opening k.Repeat >>= λ _. body >>= λ b. token k.Until >>= λ _. expression >>= λ c. token k.EndRepeat >>= λ _. give (b, c)))
+  repeat_stmt = scoped (node make_repeat (opening k.Repeat >>= λ _. body
+      >>= λ b. token k.Until >>= λ _. expression >>= λ c. token k.EndRepeat >>= λ _. give (b, c)))
 
   -- labels = point [ ".." point ] { "," point [ ".." point ] } ":" statements
   abbrev pub one_case : Rule Case
@@ -153,14 +166,17 @@ module _ (body : Rule (List Stmt)) where
 
   -- CASE expr OF branches [ ELSE statements ] END_CASE
   abbrev pub selection_of : Rule (List Case) → Rule Stmt
-  selection_of branches = scoped (node make_case (opening k.Case >>= λ _. expression >>= λ x. token k.Of >>= λ _. branches >>= λ found. otherwise >>= λ last. token k.EndCase >>= λ _. give (x, found, last)))
+  selection_of branches = scoped (node make_case (opening k.Case >>= λ _. expression
+      >>= λ x. token k.Of >>= λ _. branches
+      >>= λ found. otherwise >>= λ last. token k.EndCase >>= λ _. give (x, found, last)))
 
   abbrev pub selection : Rule Stmt
   selection = selection_of cases
 
   -- a statement, but for an empty one
   abbrev pub statement : Rule Stmt
-  statement = assign or (call or (return_stmt or (exit_stmt or (continue_stmt or (choice or (selection or (counted or (while_stmt or repeat_stmt))))))))
+  statement = assign or (call or (return_stmt or (exit_stmt or (continue_stmt
+      or (choice or (selection or (counted or (while_stmt or repeat_stmt))))))))
 
 -- ---- lists of statements
 

@@ -33,7 +33,11 @@ abbrev pub end_of_parts : ℕ → List Part → ℕ
 end_of_parts end ps = fold (λ before p. end_of_part p) end ps
 
 abbrev pub path_from : Identifier → List Part → Path
-path_from name ps = record { node = node_at name.node.start (end_of_parts name.node.end ps); root = root.Name name; parts = ps }
+path_from name ps = record {
+  node = node_at name.node.start (end_of_parts name.node.end ps);
+  root = root.Name name;
+  parts = ps;
+}
 
 -- ---- statements
 
@@ -126,7 +130,8 @@ end_of_point (point.Name name) = name.node.end
 end_of_point (point.Value node name value) = node.end
 
 abbrev pub label_to : Point → Option Point → ℕ → Label
-label_to first last end = record { node = node_at (start_of_point first) end; first = first; last = last }
+label_to first last end =
+    record { node = node_at (start_of_point first) end; first = first; last = last }
 
 abbrev pub single : Point → Label
 single first = label_to first None (end_of_point first)

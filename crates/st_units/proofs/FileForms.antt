@@ -74,7 +74,7 @@ module _ {A : Type 0} {parts : Parser A} {L : Rule A} {more : List Lexeme → Bo
   deep_by (Ok q) left e is = absurd (deep_rest q.0 q.1 left q.1.rest is)
   deep_by (Err s) left e is = deep_at h open_end here ts left (e ∙ is)
 
-  answered_by : (result : Result A ParseError) (new : Input) → Reads (and_then (parts start) finish) result new → IsAnswer L ts result new.rest
+  pub answered_by : (result : Result A ParseError) (new : Input) → Reads (and_then (parts start) finish) result new → IsAnswer L ts result new.rest
   answered_by (Ok x) new reads = ok_by (parts start) x new refl reads
   answered_by (Err cause.Memory) new reads = tt
   answered_by (Err cause.Grammar) new reads = fault_by (parts start) new.rest refl (reads (λ e. cc))

@@ -3,3 +3,5 @@ pub mod FileForms
 pub mod FileAnswers
 pub mod FrontLaws
 pub mod FrontAnswers
+pub mod CommentTrees
+pub mod TextLaws

@@ -12,8 +12,10 @@ use Rattle.token_grammar.proofs.Loose.{Loose, loose_give, loose_bind, loose_or, 
 use Rattle.st_tree.specs.declared.declaration.Section.{Section}
 use Rattle.st_tree.specs.declared.file.Body.{Body}
 use Rattle.st_tree.specs.declared.file.Body.TheVariants as body_kind
+use Rattle.st_tree.specs.declared.file.Unit.{Unit as UnitTree}
 use Rattle.st_tree.specs.declared.file.UnitKind.{UnitKind}
 use Rattle.st_tree.specs.declared.file.UnitKind.TheVariants as unit_kind
+use Rattle.st_tree.specs.declared.file.FilePart.{FilePart}
 use Rattle.st_tree.specs.declared.file.FilePart.TheVariants as part
 use Rattle.st_expr.proofs.Leaves.{form_identifier, level_identifier}
 use Rattle.st_expr.proofs.Operators.{or_is, last_is}
@@ -128,7 +130,7 @@ form_program = form_unit_as k.Program k.EndProgram unit_kind.Program refl refl
 
 -- ---- parts of a file
 
-abbrev other_rule : Rule _
+abbrev other_rule : Rule FilePart
 other_rule = (rules.types >>= λ t. give (part.Types t))
     or ((rules.globals >>= λ x. give (part.Globals x)) or (rules.config >>= λ c. give (part.Config c)))
 
@@ -151,7 +153,7 @@ form_file_part = form_or k.Function (form_as part.Unit form_function)
     (form_or k.FunctionBlock (form_as part.Unit form_block)
     (form_or k.Program (form_as part.Unit form_program) form_other_part refl) refl) refl
 
-level_unit_part : {rule : Rule _} → IsLevel rule → IsLevel (rule >>= λ u. give (part.Unit u))
+level_unit_part : {rule : Rule UnitTree} → IsLevel rule → IsLevel (rule >>= λ u. give (part.Unit u))
 level_unit_part level = level_bind level (λ u. level_give (part.Unit u))
 
 level_file_part : IsLevel g.file_part

@@ -1,6 +1,6 @@
 // What is read of a list of tokens from one of them on: an expression, statements or a chart, or the place where the tokens stop being that.
 
-ghost use Rattle.std.specs.Prelude.{◌≡◌, ◌+◌, ◌≤◌, IfOk, length, drop};
+ghost use Rattle.std.specs.Prelude.{◌≡◌, ◌+◌, ◌≤◌, [], IfOk, length, drop};
 ghost use Rattle.std.specs.List.{filter};
 ghost use Rattle.token_grammar.specs.Grammar.{max_depth};
 ghost use Rattle.token_grammar.specs.Input.{Parser, Reads, view};
@@ -8,6 +8,8 @@ ghost use Rattle.token_grammar.specs.Kept.{is_kept as keeps};
 ghost use Rattle.st_expr.specs.Grammar as expressions;
 ghost use Rattle.st_statements.specs.Grammar as lists;
 ghost use Rattle.sfc_text.specs.Grammar as charts;
+ghost use Rattle.tree_numbers.specs.Numbers as numbers;
+ghost use Rattle.tree_numbers.specs.Numbers.{numbered_expr, numbered_sfc, numbered_stmts};
 ghost use Rattle.st_units.specs.Fronts as spec;
 ghost use Rattle.st_units.specs.steps.Found.{FindsFront, FrontFound, kept_behind};
 
@@ -18,6 +20,72 @@ use st_tree::{Expr, Sfc, Stmt};
 use std::alloc::{AllocError, Global};
 use token_grammar::{Cursor, ParseError, Token, TokenKind, Tokens, drop_comments};
 use tree_items::{Boxed, Items};
+use tree_numbers::{Counting, Starts, number_expr, number_sfc, number_stmts};
+
+/// The expression that the tokens from the number `from` on begin with, and the number of the token behind it: of the next one that is neither
+/// a comment nor a pragma, or the number of tokens where none is left. The expression stands `outer` deep, at most 256. Its nodes are numbered
+/// from 0. Where the longest front that begins an expression spells none within the depth, the fault says why and where.
+pub fn expression(
+    alloc: Global,
+    tokens: &Tokens<'_>,
+    from: usize,
+    outer: usize,
+) -> Result<(Expr, usize), ParseFault>
+    requires from { from ≤ length tokens.now.list.items }
+    requires outer { outer ≤ max_depth }
+    ensures {
+        spec.ParsesFront expressions.expression (numbered_expr []) outer
+            tokens.now.text.now tokens.now.list.items from result
+    }
+{
+    let (tree, behind) = expression_front(alloc, tokens, from, outer)?;
+    let mut tree = tree.into_inner();
+    number_expr(&mut tree, &mut fresh(alloc))?;
+    Ok((tree, behind))
+}
+
+/// The statements that the tokens from the number `from` on begin with, and the number of the token behind them, as `expression` has it.
+/// Their nodes are numbered from 0. Where the longest front that begins statements spells none within the depth, the fault says why and where.
+pub fn statements(
+    alloc: Global,
+    tokens: &Tokens<'_>,
+    from: usize,
+) -> Result<(Items<Stmt>, usize), ParseFault>
+    requires { from ≤ length tokens.now.list.items }
+    ensures {
+        spec.ParsesFront lists.statements (numbered_stmts []) 0
+            tokens.now.text.now tokens.now.list.items from result
+    }
+{
+    let (mut found, behind) = statements_front(alloc, tokens, from)?;
+    number_stmts(&mut found, &mut fresh(alloc))?;
+    Ok((found, behind))
+}
+
+/// The chart that the tokens from the number `from` on begin with, and the number of the token behind it, as `expression` has it. Its nodes
+/// are numbered from 0. Where the longest front that begins a chart spells none within the depth, the fault says why and where.
+pub fn sfc_body(
+    alloc: Global,
+    tokens: &Tokens<'_>,
+    from: usize,
+) -> Result<(Sfc, usize), ParseFault>
+    requires { from ≤ length tokens.now.list.items }
+    ensures {
+        spec.ParsesFront charts.sfc (numbered_sfc []) 0
+            tokens.now.text.now tokens.now.list.items from result
+    }
+{
+    let (mut chart, behind) = chart_front(alloc, tokens, from)?;
+    number_sfc(&mut chart, &mut fresh(alloc))?;
+    Ok((chart, behind))
+}
+
+/// Before the first node of a tree without comments.
+fn fresh(alloc: Global) -> Counting<'static>
+    ensures { result ≡ numbers.fresh [] }
+{
+    Counting::new(alloc, Starts::of(&[]))
+}
 
 /// What reads the trees of a rule.
 trait Reader<T> {

@@ -4,8 +4,10 @@
 mod fault;
 mod fronts;
 mod reading;
+mod source_file;
 mod units;
 
 pub use fault::ParseFault;
-pub use fronts::front_laws;
+pub use fronts::{expression, front_laws, sfc_body, statements};
 pub use reading::file_laws;
+pub use source_file::{parse_file, text_laws};

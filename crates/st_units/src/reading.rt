@@ -18,7 +18,10 @@ use tree_items::Items;
 
 /// The parts of a file that all the tokens spell, in the order of the text. Their nodes all have the number 0.
 pub(crate) fn parts_of(alloc: Global, tokens: Tokens<'_>) -> Result<Items<FilePart>, ParseFault>
-    ensures { (all : List Lexed) → tokens.list.items ≡ filter is_kept all → PartsFound tokens.text.now all result }
+    ensures {
+        (all : List Lexed) → tokens.entry.list.items ≡ filter is_kept all →
+        PartsFound tokens.entry.text.now all result
+    }
 {
     let mut cursor = Cursor {
         text: tokens.text,

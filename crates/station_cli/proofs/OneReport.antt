@@ -13,8 +13,6 @@ use Rattle.st_tree.specs.declared.code.TaskCode.{TaskCode}
 use Rattle.st_tree.specs.declared.code.Component.{Component}
 use Rattle.st_tree.specs.Code.{reading}
 use Rattle.first_form.specs.Nodes.{IsNumbered}
-use Rattle.first_form.specs.FirstForm.{IsTree}
-use Rattle.first_form.specs.Laws.{OneTree}
 use Rattle.task_config.specs.Plan.{IsTask, IsComponent}
 use Rattle.cycle_analysis.specs.Pass.{Entry as Told, Passed}
 use Rattle.cycle_analysis.specs.Table.{Part, pass_of, IsSolution}
@@ -22,11 +20,12 @@ use Rattle.cycle_analysis.proofs.OneTable.{AreAlike, same_pass, one_table}
 use Rattle.finding_spans.proofs.OnePosition.{one_position}
 use Rattle.finding_spans.specs.declared.report.Refusal.{Refusal}
 use Rattle.finding_spans.specs.declared.report.Report.{Report}
-use Rattle.station_cli.specs.Report.{AreAlarms, AreRanges, IsReportOf, IsWhole, IsAnalysed, IsFaultAt, IsRefusal, IsUnbuilt, IsReport}
+use Rattle.station_cli.specs.Report.{AreAlarms, AreRanges, IsReportOf, IsWhole, IsTree, IsAnalysed, IsFaultAt, IsRefusal, IsUnbuilt, IsReport}
 use Rattle.st_tree.specs.declared.plan.PlanRefusal.TheVariants.{NotBuilt}
 use Rattle.st_units.specs.Files.{IsFile, IsFileFault}
 use Rattle.st_units.specs.FileLaws.{OneFileFault, NoneOfBoth}
 use Rattle.st_lexer.specs.Cut.{IsCut}
+use Rattle.station_cli.proofs.Trees.{OneTree, parts_of, whole_of}
 use Rattle.station_cli.proofs.OneAlarms.{one_alarms}
 use Rattle.station_cli.proofs.OneRanges.{one_ranges}
 use Rattle.station_cli.proofs.OneVerdict.{one_plain, one_refused, one_unbuilt}
@@ -85,7 +84,7 @@ module _ (one_cut : OneCut) (one_fault : OneFault) (not_both : NotBoth) (one_tre
   analysed name text made other a b =
       let tokens : a.tokens ≡ b.tokens = one_cut text a.tokens b.tokens a.cut b.cut in
       let tree : a.tree ≡ b.tree = one_tree text b.tokens a.tree b.tree (subst (λ (ts : List Token). IsTree text ts a.tree) tokens a.spelled) b.spelled in
-      one_report_of name text b.tree made other b.spelled.numbered (subst (λ (t : SourceTree). IsReportOf name text t made) tree a.report) b.report
+      one_report_of name text b.tree made other b.spelled.form.numbered (subst (λ (t : SourceTree). IsReportOf name text t made) tree a.report) b.report
 
   -- a text has one fault at most
   same_fault : (text : List ℕ) (c d : FaultCode) (at place : ℕ) → IsFaultAt text c at → IsFaultAt text d place → (c ≡ d) × (at ≡ place)
@@ -98,7 +97,9 @@ module _ (one_cut : OneCut) (one_fault : OneFault) (not_both : NotBoth) (one_tre
   -- a text whose tokens spell a file has no fault
   faultless : (text : List ℕ) (tokens : List Token) (code : FaultCode) (at : ℕ) → IsCut text tokens → IsWhole text tokens → IsFaultAt text code at → ⊥
   faultless text tokens code at cut whole (inl x) = not_both text tokens code at cut x
-  faultless text tokens code at cut whole (inr (ys, y, r)) = none_of_both text ys whole.0 code at (subst (λ (ts : List Token). IsFile text ts whole.0) (one_cut text tokens ys cut y) whole.1) r
+  faultless text tokens code at cut whole (inr (ys, y, r)) = 
+      let parts = parts_of text tokens whole.0 whole.1 in
+      none_of_both text ys parts.0 code at (subst (λ (ts : List Token). IsFile text ts parts.0) (one_cut text tokens ys cut y) parts.1) r
 
   -- a text that is analysed is of the form whose analysis is built
   built : (name text : List ℕ) (made other : Report) → IsAnalysed name text made → IsUnbuilt text other → ⊥
@@ -113,9 +114,9 @@ module _ (one_cut : OneCut) (one_fault : OneFault) (not_both : NotBoth) (one_tre
 
   pub one_report : (name text : List ℕ) (made other : Report) → IsReport name text made → IsReport name text other → made ≡ other
   one_report name text made other (inl a) (inl b) = analysed name text made other a b
-  one_report name text made other (inl a) (inr (inl b)) = absurd (faultless text a.tokens b.code b.at a.cut a.whole b.fault)
+  one_report name text made other (inl a) (inr (inl b)) = absurd (faultless text a.tokens b.code b.at a.cut (whole_of text a.tokens a.tree a.spelled) b.fault)
   one_report name text made other (inl a) (inr (inr b)) = absurd (built name text made other a b)
-  one_report name text made other (inr (inl a)) (inl b) = absurd (faultless text b.tokens a.code a.at b.cut b.whole a.fault)
+  one_report name text made other (inr (inl a)) (inl b) = absurd (faultless text b.tokens a.code a.at b.cut (whole_of text b.tokens b.tree b.spelled) a.fault)
   one_report name text made other (inr (inl a)) (inr (inl b)) = one_refusal name text made other a b
   one_report name text made other (inr (inl a)) (inr (inr b)) = absurd (faultless text b.tokens a.code a.at b.cut b.whole a.fault)
   one_report name text made other (inr (inr a)) (inl b) = absurd (built name text other made b a)

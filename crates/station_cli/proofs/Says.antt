@@ -13,8 +13,6 @@ use Rattle.station_ports.specs.declared.outside.PutRefusal.TheVariants as refusa
 use Rattle.token_grammar.specs.declared.token.Token.{Token}
 use Rattle.first_form.specs.declared.tree.Unit.{Unit as SourceUnit}
 use Rattle.st_tree.specs.declared.code.Component.{Component}
-use Rattle.first_form.specs.FirstForm.{IsTree}
-use Rattle.first_form.specs.Laws.{OneTree}
 use Rattle.task_config.specs.Plan.{IsComponent}
 use Rattle.task_meaning.specs.Meaning.{Move, Outcome, Continues, Faulty, start, run}
 use Rattle.task_config.proofs.Planned.{component_steady}
@@ -27,7 +25,8 @@ use Rattle.finding_spans.specs.declared.report.Verdict.{Verdict}
 use Rattle.finding_spans.specs.declared.report.Verdict.TheVariants as verdict
 use Rattle.report_text.specs.Text.{verdict_line, alarm_line, range_line, end_line, text_of}
 use Rattle.station_cli.specs.Words.{Command, check, command_of}
-use Rattle.station_cli.specs.Report.{IsReport, IsAnalysed, IsFaultAt}
+use Rattle.station_cli.specs.Report.{IsReport, IsAnalysed, IsFaultAt, IsTree}
+use Rattle.station_cli.proofs.Trees.{OneTree, parts_of}
 use Rattle.station_cli.specs.Reports.{Fits, IsOfAnalysis}
 use Rattle.station_cli.specs.Run.{World, Course, misused, checked, too_long, unread, out_of_memory, Happens, max_file, IsWork, IsWritten}
 use Rattle.station_cli.specs.Run.{verdict_status}
@@ -121,7 +120,7 @@ planned_of one_cut one_tree name text made a component p =
     subst (λ (u : SourceUnit). IsComponent u component) unit p.planned
 
 program_of : (name text : List ℕ) (made : Report) (a : IsAnalysed name text made) → IsProgram text a.report.component
-program_of name text made a = record { tokens = a.tokens; tree = a.tree; unit = a.report.unit; cut = a.cut; whole = a.whole; spelled = a.spelled; units = a.report.units; planned = a.report.planned }
+program_of name text made a = record { tokens = a.tokens; tree = a.tree; unit = a.report.unit; cut = a.cut; spelled = a.spelled; units = a.report.units; planned = a.report.planned }
 
 foretold_of : Theorem → OneCut → OneTree → (name text : List ℕ) (made : Report) → IsAnalysed name text made → (component : Component) → IsProgram text component → (moves : List Move) → IsForetold component made (run component moves (start component))
 foretold_of law one_cut one_tree name text made a component p moves = foretold law name text a.tree made a.report component (planned_of one_cut one_tree name text made a component p) moves
@@ -198,7 +197,8 @@ module _ (law : Theorem) (steady : Theorem_steady) (one_cut : OneCut) (not_both 
   unrefused : (text : List ℕ) (component : Component) (code : FaultCode) (at : ℕ) → IsProgram text component → IsFaultAt text code at → ⊥
   unrefused text component code at p (inl fault) = not_both text p.tokens code at p.cut fault
   unrefused text component code at p (inr (tokens, cut, refused)) =
-      none_of_both text tokens p.whole.0 code at (subst (λ (ts : List Token). IsFile text ts p.whole.0) (one_cut text p.tokens tokens p.cut cut) p.whole.1) refused
+      let whole = parts_of text p.tokens p.spelled.file p.spelled.spelled in
+      none_of_both text tokens whole.0 code at (subst (λ (ts : List Token). IsFile text ts whole.0) (one_cut text p.tokens tokens p.cut cut) whole.1) refused
 
   analysed_program : (name text : List ℕ) (made : Report) (component : Component) → IsProgram text component → IsReport name text made → IsAnalysed name text made
   analysed_program name text made component p (inl a) = a

@@ -13,7 +13,6 @@ use Rattle.first_form.specs.declared.tree.SourceTree.{SourceTree}
 use Rattle.st_tree.specs.declared.code.CellInfo.{CellInfo}
 use Rattle.st_tree.specs.declared.code.TaskCode.{TaskCode}
 use Rattle.st_tree.specs.declared.code.Component.{Component}
-use Rattle.first_form.specs.FirstForm.{IsTree}
 use Rattle.task_config.specs.Plan.{IsComponent}
 use Rattle.task_meaning.specs.Meaning.{State, TaskState, Numbers, Move, Outcome, Continues, Faulty, start, run}
 use Rattle.cycle_analysis.specs.Steady.{NoneWaits}
@@ -26,21 +25,20 @@ use Rattle.station_ports.specs.Views.{PortView}
 use Rattle.station_ports.specs.Calls.{IsContent}
 use Rattle.report_text.specs.Text.{text_of}
 use Rattle.station_cli.specs.Words.{check, command_of}
-use Rattle.station_cli.specs.Report.{IsReport, IsWhole}
+use Rattle.station_cli.specs.Report.{IsReport, IsTree}
 use Rattle.station_cli.specs.Run.{World, max_file}
 use Rattle.station_cli.specs.Causes.{IsReportedAs}
 use Rattle.station_cli.specs.declared.status.Status.TheVariants.{Clean, Open}
 
 -- ---- the program of a text, and what a report says of a run
 
--- A component that a text defines: that of the one program that its tokens, a file, spell. (They differ
+-- A component that a text defines: that of the one program of the file that its tokens spell. (They differ
 -- in the order and number of their literals and in how their code lies in memory.)
 pub record IsProgram (text : List ℕ) (component : Component) : Type 0 where
   pub tokens : List Token
   pub tree : SourceTree
   pub unit : SourceUnit
   pub cut : IsCut text tokens
-  pub whole : IsWhole text tokens
   pub spelled : IsTree text tokens tree
   pub units : tree.units ≡ unit ∷ []
   pub planned : IsComponent unit component

@@ -3,14 +3,13 @@ use Rattle.std.specs.Prelude.{◌≡◌, ◌≤◌, ℕ, List, [], ◌∷◌, le
 use Rattle.std.specs.List.{Contains}
 use Rattle.token_grammar.specs.declared.token.Token.{Token}
 use Rattle.st_lexer.specs.Cut.{IsCut}
-use Rattle.first_form.specs.FirstForm.{IsTree}
 use Rattle.st_tree.specs.declared.node.Node.{Node}
 use Rattle.first_form.specs.declared.tree.Unit.{Unit as SourceUnit}
 use Rattle.first_form.specs.declared.tree.SourceTree.{SourceTree}
 use Rattle.st_tree.specs.Feeds.{feeds_from}
 use Rattle.first_form.specs.Names.{UsesDeclared}
 use Rattle.first_form.specs.Nodes.{IsNumbered, nodes_of}
-use Rattle.station_cli.specs.Report.{IsFaultAt, IsWhole}
+use Rattle.station_cli.specs.Report.{IsFaultAt, IsWhole, IsTree}
 use Rattle.station_cli.specs.declared.report.Parsed.{Parsed}
 use Rattle.station_cli.specs.declared.report.Parsed.TheVariants.{Tree, Fault, Other}
 
@@ -24,8 +23,9 @@ pub record IsAnalysable (text : List ℕ) (tree : SourceTree) : Type 0 where
   pub within : (node : Node) → Contains (nodes_of tree) node → node.start ≤ length text
   pub short : length text ≤ 1048576
 
--- What a text is parsed to: the tree of the first form that its tokens spell, its first fault, or that its tokens spell a file of another form.
+-- What a text is parsed to: the tree of the first form that its tokens spell, its first fault, or that its tokens
+-- spell a file of another form.
 abbrev pub IsParsed : List ℕ → Parsed → Type 0
-IsParsed text (Tree tree) = (tokens : List Token) × IsCut text tokens × IsWhole text tokens × IsTree text tokens tree × IsAnalysable text tree
+IsParsed text (Tree tree) = (tokens : List Token) × IsCut text tokens × IsTree text tokens tree × IsAnalysable text tree
 IsParsed text (Fault fault) = IsFaultAt text fault.code fault.at × (fault.at ≤ length text)
 IsParsed text Other = (tokens : List Token) × IsCut text tokens × IsWhole text tokens × ((tree : SourceTree) → IsTree text tokens tree → ⊥)

@@ -7,9 +7,10 @@ use Rattle.interval_domain.specs.Interval.{Interval, Span, IsWithin}
 use Rattle.interval_domain.specs.Grid.{IsGrid}
 use Rattle.st_tree.specs.declared.node.Site.{Site}
 use Rattle.iec_tables.specs.declared.fault.FaultCode.{FaultCode}
-use Rattle.st_tree.specs.declared.file.FilePart.{FilePart}
+use Rattle.st_tree.specs.declared.file.SourceTree.{SourceTree as SourceFile}
 use Rattle.st_tree.specs.declared.plan.PlanRefusal.TheVariants.{NotBuilt}
-use Rattle.st_units.specs.Files.{IsFile, IsFileFault}
+use Rattle.st_units.specs.Files.{IsFileFault}
+use Rattle.st_units.specs.SourceTrees.{IsSourceTree}
 use Rattle.first_form.specs.declared.tree.Stmt.{Stmt}
 use Rattle.first_form.specs.declared.tree.Stmt.TheVariants.{Assign}
 use Rattle.first_form.specs.declared.tree.Unit.{Unit as SourceUnit}
@@ -19,7 +20,7 @@ use Rattle.st_tree.specs.declared.code.Component.{Component}
 use Rattle.first_form.specs.Nodes.{stmt_nodes}
 use Rattle.token_grammar.specs.declared.token.Token.{Token}
 use Rattle.st_lexer.specs.Cut.{IsCut, IsFault}
-use Rattle.first_form.specs.FirstForm.{IsTree}
+use Rattle.first_form.specs.FirstForm.{IsFirstForm}
 use Rattle.task_config.specs.Plan.{IsComponent}
 use Rattle.cycle_analysis.specs.Pass.{Entry as Told, Alarm as Alarmed}
 use Rattle.cycle_analysis.specs.Table.{Part, part_at, pass_of, own_range, IsSolution}
@@ -109,14 +110,19 @@ pub record IsReportOf (name text : List ℕ) (tree : SourceTree) (report : Repor
 
 -- The tokens spell a file.
 abbrev pub IsWhole : List ℕ → List Token → Type 0
-IsWhole text tokens = (parts : List FilePart) × IsFile text tokens parts
+IsWhole text tokens = (file : SourceFile) × IsSourceTree text tokens file
 
--- The report on a text that is analysed: its tokens spell a file, and one of the form whose analysis is built.
+-- The tokens spell a file of the form whose analysis is built, and this is its tree.
+pub record IsTree (text : List ℕ) (tokens : List Token) (tree : SourceTree) : Type 0 where
+  pub file : SourceFile
+  pub spelled : IsSourceTree text tokens file
+  pub form : IsFirstForm file tree
+
+-- The report on a text that is analysed: its tokens spell a file of the form whose analysis is built.
 pub record IsAnalysed (name text : List ℕ) (made : Report) : Type 0 where
   pub tokens : List Token
   pub tree : SourceTree
   pub cut : IsCut text tokens
-  pub whole : IsWhole text tokens
   pub spelled : IsTree text tokens tree
   pub report : IsReportOf name text tree made
 

@@ -19,6 +19,8 @@ mod tests;
 mod token_tests;
 #[cfg(test)]
 mod tree_tests;
+#[cfg(test)]
+mod value_tests;
 pub mod words;
 
 use station_ports::os::{OsFiles, OsOut};

@@ -69,7 +69,8 @@ sub_either {A} {L} {M} {N} h k = record {
 }
 
 -- either rule, before another
-pub bind_or : {A B : Type 0} {L M : Rule A} {N : A → Rule B} → SameRule ((L or M) >>= N) ((L >>= N) or (M >>= N))
+pub bind_or : {A B : Type 0} {L M : Rule A} {N : A → Rule B}
+    → SameRule ((L or M) >>= N) ((L >>= N) or (M >>= N))
 bind_or {A} {B} {L} {M} {N} = record {
   to = record {
     to = λ d w y e (u, v, x, m, eq, either, r). elim either [
@@ -92,7 +93,8 @@ pub sub_node : {A B : Type 0} (make : ℕ → ℕ → A → B) {L L2 : Rule A}
 sub_node make h = record { to = λ d w y e (x, l, is). (x, h.to d w x e l, is) }
 
 sub_times : {A : Type 0} {step other : A → Rule A} → ((a : A) → SubRule (step a) (other a))
-    → (n : ℕ) (a : A) (d : ℕ) (w : Word) (x : A) (e : ℕ) → times step n a d w x e → times other n a d w x e
+    → (n : ℕ) (a : A) (d : ℕ) (w : Word) (x : A) (e : ℕ) → times step n a d w x e
+    → times other n a d w x e
 sub_times h zero a d w x e l = l
 sub_times h (suc n) a d w x e (u, v, b, m, eq, l, r) =
     (u, v, b, m, eq, (h a).to d u b m l, sub_times h n b m v x e r)
@@ -105,7 +107,8 @@ sub_many h a = record { to = λ d w x e (n, l). (n, sub_times h n a d w x e l) }
 
 pub same_bind : {A B : Type 0} {L L2 : Rule A} {M M2 : A → Rule B}
     → SameRule L L2 → ((x : A) → SameRule (M x) (M2 x)) → SameRule (L >>= M) (L2 >>= M2)
-same_bind h k = record { to = sub_bind h.to (λ x. (k x).to); from = sub_bind h.from (λ x. (k x).from) }
+same_bind h k =
+    record { to = sub_bind h.to (λ x. (k x).to); from = sub_bind h.from (λ x. (k x).from) }
 
 pub same_or : {A : Type 0} {L L2 M M2 : Rule A}
     → SameRule L L2 → SameRule M M2 → SameRule (L or M) (L2 or M2)
@@ -130,24 +133,29 @@ same_many h a = record { to = sub_many (λ b. (h b).to) a; from = sub_many (λ b
 pub level_sub : {A : Type 0} {L M : Rule A} → SubRule L M → IsLevel M → IsLevel L
 level_sub h level d w x e l = level d w x e (h.to d w x e l)
 
-pub starts_sub : {A : Type 0} {L M : Rule A} {ks : List TokenKind} → SubRule L M → Starts M ks → Starts L ks
+pub starts_sub : {A : Type 0} {L M : Rule A} {ks : List TokenKind} → SubRule L M → Starts M ks
+    → Starts L ks
 starts_sub h starts = record { sees = λ d w x e l rest. starts.sees d w x e (h.to d w x e l) rest }
 
-pub loose_sub : {A : Type 0} {L M : Rule A} {ks : List TokenKind} → SubRule L M → Loose M ks → Loose L ks
+pub loose_sub : {A : Type 0} {L M : Rule A} {ks : List TokenKind} → SubRule L M → Loose M ks
+    → Loose L ks
 loose_sub h loose = record { sees = λ d w x e l. loose.sees d w x e (h.to d w x e l) }
 
 pub avoids_sub : {A : Type 0} {L M : Rule A} (k : TokenKind) → SubRule L M → Avoids M k → Avoids L k
 avoids_sub k h avoids d w x e l = avoids d w x e (h.to d w x e l)
 
 -- that a rule has such words
-pub opens_sub : {A : Type 0} {L M : Rule A} {ks : List TokenKind} → SubRule L M → Opens L ks → Opens M ks
+pub opens_sub : {A : Type 0} {L M : Rule A} {ks : List TokenKind} → SubRule L M → Opens L ks
+    → Opens M ks
 opens_sub h opens = record {
-  word = λ d t r e. let (at, w, x, m, l) = opens.word d t r e in (at, w, x, m, h.to d ((t, at) ∷ w) x m l);
+  word = λ d t r e. let (at, w, x, m, l) =
+      opens.word d t r e in (at, w, x, m, h.to d ((t, at) ∷ w) x m l);
 }
 
 -- ---- what reads a rule reads each that spells the same
 
-pub exact_as : {A : Type 0} {V : ℕ → Type 0} {p : Parser A} {L M : Rule A} {more : List Lexeme → Bool}
+pub exact_as : {A : Type 0} {V : ℕ → Type 0} {p : Parser A} {L M : Rule A} {more : List Lexeme
+    → Bool}
     → SameRule L M → Exact V p L more → Exact V p M more
 exact_as same h = exact_same h (λ d v. v) same.to.to same.from.to (λ rest e. e)
 
@@ -177,14 +185,17 @@ pub loose_some_of : {A : Type 0} {rules : ℕ → Rule A} {ks : List TokenKind}
     → ((n : ℕ) → Loose (rules n) ks) → Loose (some_of rules) ks
 loose_some_of h = record { sees = λ d w x e (n, l). (h n).sees d w x e l }
 
-pub level_some_of : {A : Type 0} {rules : ℕ → Rule A} → ((n : ℕ) → IsLevel (rules n)) → IsLevel (some_of rules)
+pub level_some_of : {A : Type 0} {rules : ℕ → Rule A} → ((n : ℕ) → IsLevel (rules n))
+    → IsLevel (some_of rules)
 level_some_of h d w x e (n, l) = h n d w x e l
 
 -- What reads each of them reads some of them.
-pub exact_some_of : {A : Type 0} {V : ℕ → Type 0} {p : Parser A} {rules : ℕ → Rule A} {more : List Lexeme → Bool}
+pub exact_some_of : {A : Type 0} {V : ℕ → Type 0} {p : Parser A} {rules : ℕ → Rule A}
+    {more : List Lexeme → Bool}
     → ((n : ℕ) → Exact V p (rules n) more) → Exact V p (some_of rules) more
 exact_some_of {p} {rules} h = record {
-  told = λ i v. told_same (rules zero) (some_of rules) i (p i) ((h zero).told i v) (λ d w x e l. (zero, l));
+  told = λ i v. told_same (rules zero) (some_of rules) i (p i) ((h zero).told i v)
+      (λ d w x e l. (zero, l));
   complete = λ d w x e v (n, l) last rest ends_here. (h n).complete d w x e v l last rest ends_here;
   local = (h zero).local;
   cut = (h zero).cut;

@@ -1,4 +1,5 @@
--- Words taken apart and put together: their first and last bytes, and rules that only change the value.
+-- Words taken apart and put together: their first and last bytes, and rules that only change the
+-- value.
 use Rattle.std.proofs.Common.{◌≡◌, ℕ, ◌+◌, ◌<◌, [], ◌∷◌, ◌++◌, length, refl, sym, ap, subst, ◌∙◌, append_assoc, arith}
 use Rattle.std.proofs.lemmas.List.{append-nil, length-append}
 use Rattle.token_grammar.specs.declared.token.TokenKind.{TokenKind}
@@ -42,7 +43,8 @@ gives L f d w x e l = (w, [], x, e, sym (append-nil w), l, (refl, refl, refl))
 
 -- ---- a last lexeme
 
-alone : (v u2 v2 : Word) (l : Lexeme) (n : ℕ) → v ≡ u2 ++ v2 → u2 ≡ (l, n) ∷ [] → v2 ≡ [] → v ≡ (l, n) ∷ []
+alone : (v u2 v2 : Word) (l : Lexeme) (n : ℕ) → v ≡ u2 ++ v2 → u2 ≡ (l, n) ∷ [] → v2 ≡ []
+    → v ≡ (l, n) ∷ []
 alone v u2 v2 l n eq one empty = rw (eq, one, empty) refl
 
 -- a lexeme of the kind, and a value made of the byte after it
@@ -51,7 +53,8 @@ up_to kind f = token kind >>= λ l. give (f l.end)
 
 module _ {A B : Type 0} (kind : TokenKind) (f : ℕ → A) (b : B) (m : ℕ) (v : Word) (e : ℕ) where
   -- any other value with it
-  pub last_to : (x : A) → up_to kind f m v x e → (token kind >>= λ _. give b) m v b e × (x ≡ f (end_of v)) × (0 < length v)
+  pub last_to : (x : A) → up_to kind f m v x e
+      → (token kind >>= λ _. give b) m v b e × (x ≡ f (end_of v)) × (0 < length v)
   last_to x (u2, v2, l, m2, eq, (one, is, after), (empty, made, same)) =
       let whole = alone v u2 v2 l (m + 0) eq one empty in
       let ends : end_of v ≡ l.end = ap end_of whole in (
@@ -60,7 +63,8 @@ module _ {A B : Type 0} (kind : TokenKind) (f : ℕ → A) (b : B) (m : ℕ) (v 
         omega (arith, ap length whole),
       )
 
-  pub last_from : (y : B) → (token kind >>= λ _. give b) m v y e → up_to kind f m v (f (end_of v)) e × (y ≡ b) × (0 < length v)
+  pub last_from : (y : B) → (token kind >>= λ _. give b) m v y e
+      → up_to kind f m v (f (end_of v)) e × (y ≡ b) × (0 < length v)
   last_from y (u2, v2, l, m2, eq, (one, is, after), (empty, made, same)) =
       let whole = alone v u2 v2 l (m + 0) eq one empty in
       let ends : end_of v ≡ l.end = ap end_of whole in (

@@ -1,5 +1,5 @@
--- A grammar: which lexemes, at which depths, spell which value. A rule reads like a line of the textual grammar of the standard. The
--- code descends by a look at the next token.
+-- A grammar: which lexemes, at which depths, spell which value. A rule reads like a line of the
+-- textual grammar of the standard. The code descends by a look at the next token.
 use Rattle.std.specs.Prelude.{◌≡◌, ◌⊎◌, ℕ, zero, suc, ◌+◌, ◌<◌, ◌≤◌, Bool, true, List, [], ◌∷◌, ◌++◌}
 use Rattle.token_grammar.specs.declared.token.TokenKind.{TokenKind}
 use Rattle.token_grammar.specs.Texts.{Lexeme}
@@ -21,7 +21,8 @@ Rule A = ℕ → Word → A → ℕ → Type 0
 abbrev pub give : {A : Type 0} → A → Rule A
 give a d w x e = (w ≡ []) × (x ≡ a) × (e ≡ d)
 
--- A lexeme that passes the test stands `own` deeper than what is around it, and what follows is `more` deeper.
+-- A lexeme that passes the test stands `own` deeper than what is around it, and what follows is
+-- `more` deeper.
 abbrev pub token_as : (Lexeme → Bool) → (own more : ℕ) → Rule Lexeme
 token_as test own more d w t e = (w ≡ (t, d + own) ∷ []) × (test t ≡ true) × (e ≡ d + more)
 
@@ -54,7 +55,8 @@ deeper L d w x e = L (d + 1) w x e
 -- so many times
 abbrev pub times : {A : Type 0} → (A → Rule A) → ℕ → A → Rule A
 times step zero a d w x e = (w ≡ []) × (x ≡ a) × (e ≡ d)
-times step (suc n) a d w x e = (u v : Word) × (b : _) × (m : ℕ) × (w ≡ u ++ v) × step a d u b m × times step n b m v x e
+times step (suc n) a d w x e =
+    (u v : Word) × (b : _) × (m : ℕ) × (w ≡ u ++ v) × step a d u b m × times step n b m v x e
 
 -- any number of times, from a first value on
 abbrev pub many : {A : Type 0} → (A → Rule A) → A → Rule A
@@ -85,7 +87,8 @@ pub record Begins {A : Type 0} (L : Rule A) (d : ℕ) (ts : List Lexeme) : Type 
 
 -- With the next lexeme they no longer do.
 abbrev pub Stops : {A : Type 0} → Rule A → ℕ → List Lexeme → List Lexeme → Type 0
-Stops L d front rest = (t : Lexeme) (after : List Lexeme) → rest ≡ t ∷ after → Begins L d (front ++ t ∷ []) → ⊥
+Stops L d front rest =
+    (t : Lexeme) (after : List Lexeme) → rest ≡ t ∷ after → Begins L d (front ++ t ∷ []) → ⊥
 
 -- the greatest depth of a token
 abbrev pub max_depth : ℕ
@@ -111,8 +114,10 @@ pub record IsLongest {A : Type 0} (L : Rule A) (ts rest : List Lexeme) : Type 0 
   pub begun : Begins L 0 front
   pub stops : Stops L 0 front rest
 
--- The lexemes begin with a word that spells the value, none of it too deep, and with no longer list that begins the rule.
-pub record SpellsFront {A : Type 0} (L : Rule A) (d : ℕ) (ts : List Lexeme) (x : A) (rest : List Lexeme) : Type 0 where
+-- The lexemes begin with a word that spells the value, none of it too deep, and with no longer list
+-- that begins the rule.
+pub record SpellsFront {A : Type 0} (L : Rule A) (d : ℕ) (ts : List Lexeme) (x : A)
+    (rest : List Lexeme) : Type 0 where
   pub word : Word
   pub depth : ℕ
   pub tokens : ts ≡ lexemes_of word ++ rest
@@ -120,7 +125,8 @@ pub record SpellsFront {A : Type 0} (L : Rule A) (d : ℕ) (ts : List Lexeme) (x
   pub within : Within word
   pub longest : Stops L d (lexemes_of word) rest
 
--- The lexemes up to the rest begin the rule, none of them too deep, and with the next one they don't.
+-- The lexemes up to the rest begin the rule, none of them too deep, and with the next one they
+-- don't.
 pub record IsFault {A : Type 0} (L : Rule A) (d : ℕ) (ts rest : List Lexeme) : Type 0 where
   pub word : Word
   pub more : Word
@@ -133,7 +139,8 @@ pub record IsFault {A : Type 0} (L : Rule A) (d : ℕ) (ts rest : List Lexeme) :
   -- and up to the rest they spell nothing
   pub unspelled : (w : Word) (x : A) (e : ℕ) → L d w x e → ts ≡ lexemes_of w ++ rest → ⊥
 
--- The lexemes up to the rest begin the rule, none of them too deep, and with the next one they still do, but it stands too deep.
+-- The lexemes up to the rest begin the rule, none of them too deep, and with the next one they
+-- still do, but it stands too deep.
 pub record IsTooDeep {A : Type 0} (L : Rule A) (d : ℕ) (ts rest : List Lexeme) : Type 0 where
   pub word : Word
   pub next : Lexeme × ℕ
@@ -147,7 +154,8 @@ pub record IsTooDeep {A : Type 0} (L : Rule A) (d : ℕ) (ts rest : List Lexeme)
   pub within : Within word
   pub deep : max_depth < next.1
 
--- The whole list spells nothing. Up to the rest it begins the rule, no lexeme too deep, and with the next one it no longer does.
+-- The whole list spells nothing. Up to the rest it begins the rule, no lexeme too deep, and with
+-- the next one it no longer does.
 pub record IsWrong {A : Type 0} (L : Rule A) (ts rest : List Lexeme) : Type 0 where
   pub word : Word
   pub more : Word

@@ -1,5 +1,6 @@
--- What a parser reads from, and the steps that every rule is made of: the grammar once more as functions, which answer a value and what is
--- left, or a place. A step on the way from the code to the grammar.
+-- What a parser reads from, and the steps that every rule is made of: the grammar once more as
+-- functions, which answer a value and what is left, or a place. A step on the way from the code to
+-- the grammar.
 use Rattle.std.specs.Prelude.{◌≡◌, ◌≢◌, ℕ, zero, suc, ◌+◌, Bool, true, false, ◌&&◌, if◌then◌else◌, nat_lt, List, [], ◌∷◌, length, Result, Ok, Err}
 use Rattle.token_grammar.specs.declared.token.TokenKind.{TokenKind}
 use Rattle.token_grammar.specs.declared.cursor.Cursor.{Cursor}
@@ -81,11 +82,14 @@ pure a = λ i. Ok (a, i)
 abbrev pub refuse : {A : Type 0} → Parser A
 refuse = λ i. Err (record { code = Grammar; rest = i.rest })
 
--- A lexeme that passes the test stands `own` deeper than what is around it, and what follows is `more` deeper.
+-- A lexeme that passes the test stands `own` deeper than what is around it, and what follows is
+-- `more` deeper.
 abbrev pub take_in : (Lexeme → Bool) → ℕ → ℕ → ℕ → List Lexeme → Outcome Lexeme
 take_in test own more depth [] = Err (record { code = Grammar; rest = [] })
 take_in test own more depth (t ∷ ts) =
-    if test t then (if nat_lt max_depth (depth + own) then Err (record { code = TooDeep; rest = t ∷ ts }) else Ok (t, record { rest = ts; last = t.end; depth = depth + more }))
+    if test t then (if nat_lt max_depth (depth + own) then Err
+    (record { code = TooDeep; rest = t ∷ ts })
+    else Ok (t, record { rest = ts; last = t.end; depth = depth + more }))
     else Err (record { code = Grammar; rest = t ∷ ts })
 
 abbrev pub take_as : (Lexeme → Bool) → (own more : ℕ) → Parser Lexeme
@@ -150,7 +154,8 @@ Reads outcome (Err e) new = e ≢ Memory → outcome ≡ Err (record { code = e;
 -- what was read is shown by a function
 abbrev pub ReadsAs : {A B : Type 0} → (A → B) → Outcome B → Result A ParseError → Input → Type 0
 ReadsAs shows outcome (Ok a) new = outcome ≡ Ok (shows a, new)
-ReadsAs shows outcome (Err e) new = e ≢ Memory → outcome ≡ Err (record { code = e; rest = new.rest })
+ReadsAs shows outcome (Err e) new =
+    e ≢ Memory → outcome ≡ Err (record { code = e; rest = new.rest })
 
 -- what was read goes to another place
 abbrev pub ReadsTo : {A : Type 0} → Outcome A → Result (Unit {0}) ParseError → A → Input → Type 0

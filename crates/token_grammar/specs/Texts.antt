@@ -15,7 +15,13 @@ pub record Lexeme : Type 0 where
   pub behind : List ℕ
 
 abbrev pub lexeme : List ℕ → Token → Lexeme
-lexeme text t = record { kind = t.kind; start = t.start; end = t.end; bytes = take (t.end - t.start) (drop t.start text); behind = take 1 (drop t.end text) }
+lexeme text t = record {
+  kind = t.kind;
+  start = t.start;
+  end = t.end;
+  bytes = take (t.end - t.start) (drop t.start text);
+  behind = take 1 (drop t.end text);
+}
 
 abbrev pub lexemes : List ℕ → List Token → List Lexeme
 lexemes text ts = map (lexeme text) ts

@@ -7,8 +7,11 @@ use Rattle.token_grammar.specs.declared.fault.ParseError.{ParseError}
 use Rattle.token_grammar.specs.Input.{Parser, Reads, view}
 
 -- the function value reads this parser, at this depth of nesting
-pub record Nests {A : Type 0} (parser : ℕ → Parser A) (nest : ℕ) (pre : Global → MutBor Cursor → ℕ → Type 0)
-    (post : Global → MutBor Cursor → ℕ → Result A ParseError → MutBor Cursor → Type 0) : Type 0 where
+pub record Nests {A : Type 0} (parser : ℕ → Parser A) (nest : ℕ) (pre : Global → MutBor Cursor → ℕ
+    → Type 0)
+    (post : Global → MutBor Cursor → ℕ → Result A ParseError → MutBor Cursor
+        → Type 0) : Type 0 where
   pub callable : (alloc : Global) (old : MutBor Cursor) → pre alloc old nest
-  pub reads : (alloc : Global) (old new : MutBor Cursor) (r : Result A ParseError) → post alloc old nest r new
+  pub reads : (alloc : Global) (old new : MutBor Cursor) (r : Result A ParseError)
+      → post alloc old nest r new
       → Reads (parser nest (view old.now)) r (view new.now)

@@ -46,16 +46,23 @@ elem_as kind x = node make_elementary (take kind >>= λ _. pure x)
 
 -- one of the 14 type names
 unfoldable pub unsigned_or_time : Parser TypeName
-unsigned_or_time = choose (sees_in k.Usint) (elem_as k.Usint e.Usint) (choose (sees_in k.Uint) (elem_as k.Uint e.Uint)
-    (choose (sees_in k.Udint) (elem_as k.Udint e.Udint) (choose (sees_in k.Ulint) (elem_as k.Ulint e.Ulint) (elem_as k.Time e.Time))))
+unsigned_or_time = choose (sees_in k.Usint) (elem_as k.Usint e.Usint)
+    (choose (sees_in k.Uint) (elem_as k.Uint e.Uint)
+    (choose (sees_in k.Udint) (elem_as k.Udint e.Udint)
+        (choose (sees_in k.Ulint) (elem_as k.Ulint e.Ulint) (elem_as k.Time e.Time))))
 
 unfoldable pub number_or_time : Parser TypeName
-number_or_time = choose (sees_in k.Sint) (elem_as k.Sint e.Sint) (choose (sees_in k.Int) (elem_as k.Int e.Int)
-    (choose (sees_in k.Dint) (elem_as k.Dint e.Dint) (choose (sees_in k.Lint) (elem_as k.Lint e.Lint) unsigned_or_time)))
+number_or_time = choose (sees_in k.Sint) (elem_as k.Sint e.Sint)
+    (choose (sees_in k.Int) (elem_as k.Int e.Int)
+    (choose (sees_in k.Dint) (elem_as k.Dint e.Dint)
+        (choose (sees_in k.Lint) (elem_as k.Lint e.Lint) unsigned_or_time)))
 
 unfoldable pub elementary : Parser TypeName
-elementary = choose (sees_in k.Bool) (elem_as k.Bool e.Bool) (choose (sees_in k.Byte) (elem_as k.Byte e.Byte) (choose (sees_in k.Word) (elem_as k.Word e.Word)
-    (choose (sees_in k.Dword) (elem_as k.Dword e.Dword) (choose (sees_in k.Lword) (elem_as k.Lword e.Lword) number_or_time))))
+elementary = choose (sees_in k.Bool) (elem_as k.Bool e.Bool)
+    (choose (sees_in k.Byte) (elem_as k.Byte e.Byte)
+    (choose (sees_in k.Word) (elem_as k.Word e.Word)
+    (choose (sees_in k.Dword) (elem_as k.Dword e.Dword)
+        (choose (sees_in k.Lword) (elem_as k.Lword e.Lword) number_or_time))))
 
 -- typename = name | one of the 14 type names
 unfoldable pub typename : Parser TypeName
@@ -67,7 +74,8 @@ range = node make_range (expression >>= λ a. take k.DotDot >>= λ _. expression
 
 -- "(" range ")"
 unfoldable pub bounds : Parser (Option Range)
-bounds = scoped (enter k.OpenParenthesis >>= λ _. range >>= λ r. take k.CloseParenthesis >>= λ _. pure (Some r))
+bounds = scoped (enter k.OpenParenthesis >>= λ _. range >>= λ r. take k.CloseParenthesis >>= λ _.
+    pure (Some r))
 
 unfoldable pub optional_bounds : Parser (Option Range)
 optional_bounds = choose (sees_in k.OpenParenthesis) bounds (pure None)
@@ -78,7 +86,9 @@ plain_spec = node make_type (typename >>= λ t. optional_bounds >>= λ r. pure (
 
 -- "(" names ")"
 unfoldable pub enumeration : Parser Spec
-enumeration = node make_enumeration (scoped (enter k.OpenParenthesis >>= λ _. names >>= λ ns. take k.CloseParenthesis >>= λ _. pure ns))
+enumeration =
+    node make_enumeration (scoped (enter k.OpenParenthesis >>= λ _. names >>= λ ns.
+    take k.CloseParenthesis >>= λ _. pure ns))
 
 unfoldable pub more_ranges : List Range → Parser (List Range)
 more_ranges rs = take k.Comma >>= λ _. range >>= λ r. pure (rs ++ r ∷ [])
@@ -88,15 +98,19 @@ range_list = range >>= λ r. repeated (sees_in k.Comma) more_ranges (r ∷ [])
 
 -- "[" range { "," range } "]"
 unfoldable pub ranges : Parser (List Range)
-ranges = scoped (enter k.OpenBracket >>= λ _. range_list >>= λ rs. take k.CloseBracket >>= λ _. pure rs)
+ranges = scoped (enter k.OpenBracket >>= λ _. range_list >>= λ rs. take k.CloseBracket >>= λ _.
+    pure rs)
 
 -- ARRAY "[" range { "," range } "]" OF spec, in which ARRAY counts in the depth up to the end
 unfoldable pub array : Parser Spec → Parser Spec
-array inner = node make_array (scoped (enter k.Array >>= λ _. ranges >>= λ rs. take k.Of >>= λ _. inner >>= λ s. pure (rs, s)))
+array inner =
+    node make_array (scoped (enter k.Array >>= λ _. ranges >>= λ rs. take k.Of >>= λ _.
+    inner >>= λ s. pure (rs, s)))
 
 -- spec = typename [ "(" range ")" ] | "(" names ")" | ARRAY "[" range { "," range } "]" OF spec
 unfoldable pub any_spec : Parser Spec → Parser Spec
-any_spec inner = choose (sees_in k.Array) (array inner) (choose (sees_in k.OpenParenthesis) enumeration plain_spec)
+any_spec inner = choose (sees_in k.Array) (array inner)
+    (choose (sees_in k.OpenParenthesis) enumeration plain_spec)
 
 -- specs nest less deep than the number
 unfoldable pub spec_within : ℕ → Parser Spec
@@ -111,11 +125,14 @@ spec = spec_within 257
 module _ (inner : Parser Init) where
   -- number "(" init ")"
   unfoldable pub repeated_item : Parser Item
-  repeated_item = node make_repeated (word k.Number >>= λ text. scoped (enter k.OpenParenthesis >>= λ _. inner >>= λ x. take k.CloseParenthesis >>= λ _. pure (text, x)))
+  repeated_item = node make_repeated (word k.Number >>= λ text.
+      scoped (enter k.OpenParenthesis >>= λ _. inner >>= λ x. take k.CloseParenthesis >>= λ _.
+      pure (text, x)))
 
   -- item = init | number "(" init ")"
   unfoldable pub one_item : Parser Item
-  one_item = choose (sees_two k.Number k.OpenParenthesis) repeated_item (inner >>= λ x. pure (item.One x))
+  one_item = choose (sees_two k.Number k.OpenParenthesis) repeated_item
+      (inner >>= λ x. pure (item.One x))
 
   unfoldable pub more_items : List Item → Parser (List Item)
   more_items xs = take k.Comma >>= λ _. one_item >>= λ x. pure (xs ++ x ∷ [])
@@ -125,11 +142,13 @@ module _ (inner : Parser Init) where
 
   -- "[" item { "," item } "]"
   unfoldable pub elements : Parser Init
-  elements = node make_elements (scoped (enter k.OpenBracket >>= λ _. item_list >>= λ xs. take k.CloseBracket >>= λ _. pure xs))
+  elements = node make_elements (scoped (enter k.OpenBracket >>= λ _. item_list >>= λ xs.
+      take k.CloseBracket >>= λ _. pure xs))
 
   -- name ":=" init
   unfoldable pub field_init : Parser FieldInit
-  field_init = node make_field_init (identifier >>= λ i. take k.Becomes >>= λ _. inner >>= λ x. pure (i, x))
+  field_init = node make_field_init (identifier >>= λ i. take k.Becomes >>= λ _. inner >>= λ x.
+      pure (i, x))
 
   unfoldable pub more_field_inits : List FieldInit → Parser (List FieldInit)
   more_field_inits xs = take k.Comma >>= λ _. field_init >>= λ x. pure (xs ++ x ∷ [])
@@ -139,11 +158,14 @@ module _ (inner : Parser Init) where
 
   -- "(" name ":=" init { "," name ":=" init } ")"
   unfoldable pub structure : Parser Init
-  structure = node make_structure (scoped (enter k.OpenParenthesis >>= λ _. field_list >>= λ xs. take k.CloseParenthesis >>= λ _. pure xs))
+  structure = node make_structure (scoped (enter k.OpenParenthesis >>= λ _. field_list >>= λ xs.
+      take k.CloseParenthesis >>= λ _. pure xs))
 
   -- init = expr | "[" item { "," item } "]" | "(" name ":=" init { "," name ":=" init } ")"
   unfoldable pub any_init : Parser Init
-  any_init = choose (sees_in k.OpenBracket) elements (choose (sees_three k.OpenParenthesis k.Name k.Becomes) structure (expression >>= λ x. pure (init.Value x)))
+  any_init = choose (sees_in k.OpenBracket) elements
+      (choose (sees_three k.OpenParenthesis k.Name k.Becomes) structure
+      (expression >>= λ x. pure (init.Value x)))
 
 -- initial values nest less deep than the number
 unfoldable pub init_within : ℕ → Parser Init
@@ -171,7 +193,8 @@ optional_address = choose (sees_in k.At) located (pure None)
 
 -- decl = names [ AT address ] ":" spec [ ":=" init ] ";"
 unfoldable pub decl : Parser Decl
-decl = node make_decl (names >>= λ ns. optional_address >>= λ a. take k.Colon >>= λ _. spec >>= λ s. optional_init >>= λ i. take k.Semicolon >>= λ _. pure (ns, a, s, i))
+decl = node make_decl (names >>= λ ns. optional_address >>= λ a. take k.Colon >>= λ _. spec >>= λ s.
+    optional_init >>= λ i. take k.Semicolon >>= λ _. pure (ns, a, s, i))
 
 unfoldable pub more_decls : List Decl → Parser (List Decl)
 more_decls ds = decl >>= λ x. pure (ds ++ x ∷ [])
@@ -186,7 +209,8 @@ keep_as kind x = take kind >>= λ _. pure (Some x)
 
 -- [ keep ]
 unfoldable pub keep : Parser (Option Keep)
-keep = choose (sees_in k.Constant) (keep_as k.Constant keep_kind.Constant) (choose (sees_in k.Retain) (keep_as k.Retain keep_kind.Retain)
+keep = choose (sees_in k.Constant) (keep_as k.Constant keep_kind.Constant)
+    (choose (sees_in k.Retain) (keep_as k.Retain keep_kind.Retain)
     (choose (sees_in k.NonRetain) (keep_as k.NonRetain keep_kind.NonRetain) (pure None)))
 
 -- VAR | VAR_INPUT | VAR_OUTPUT | VAR_IN_OUT | VAR_EXTERNAL | VAR_TEMP
@@ -194,17 +218,25 @@ unfoldable pub section_as : TokenKind → SectionKind → Parser SectionKind
 section_as kind x = take kind >>= λ _. pure x
 
 unfoldable pub section_word : Parser SectionKind
-section_word = choose (sees_in k.Var) (section_as k.Var section_kind.Var) (choose (sees_in k.VarInput) (section_as k.VarInput section_kind.Input)
-    (choose (sees_in k.VarOutput) (section_as k.VarOutput section_kind.Output) (choose (sees_in k.VarInOut) (section_as k.VarInOut section_kind.InOut)
-    (choose (sees_in k.VarExternal) (section_as k.VarExternal section_kind.External) (section_as k.VarTemp section_kind.Temp)))))
+section_word = choose (sees_in k.Var) (section_as k.Var section_kind.Var)
+    (choose (sees_in k.VarInput) (section_as k.VarInput section_kind.Input)
+    (choose (sees_in k.VarOutput) (section_as k.VarOutput section_kind.Output)
+        (choose (sees_in k.VarInOut) (section_as k.VarInOut section_kind.InOut)
+    (choose (sees_in k.VarExternal) (section_as k.VarExternal section_kind.External)
+        (section_as k.VarTemp section_kind.Temp)))))
 
 -- whether a section comes next
 unfoldable pub sees_section : List Lexeme → Bool
-sees_section ts = sees_in k.Var ts || (sees_in k.VarInput ts || (sees_in k.VarOutput ts || (sees_in k.VarInOut ts || (sees_in k.VarExternal ts || sees_in k.VarTemp ts))))
+sees_section ts =
+    sees_in k.Var ts || (sees_in k.VarInput ts ||
+    (sees_in k.VarOutput ts || (sees_in k.VarInOut ts ||
+    (sees_in k.VarExternal ts || sees_in k.VarTemp ts))))
 
--- section = ( VAR | VAR_INPUT | VAR_OUTPUT | VAR_IN_OUT | VAR_EXTERNAL | VAR_TEMP ) [ keep ] { decl } END_VAR
+-- section = ( VAR | VAR_INPUT | VAR_OUTPUT | VAR_IN_OUT | VAR_EXTERNAL | VAR_TEMP ) [ keep ] { decl
+-- } END_VAR
 unfoldable pub section : Parser Section
-section = node make_section (section_word >>= λ kind. keep >>= λ kp. decls >>= λ ds. take k.EndVar >>= λ _. pure (kind, kp, ds))
+section = node make_section (section_word >>= λ kind. keep >>= λ kp. decls >>= λ ds.
+    take k.EndVar >>= λ _. pure (kind, kp, ds))
 
 unfoldable pub more_sections : List Section → Parser (List Section)
 more_sections found = section >>= λ x. pure (found ++ x ∷ [])
@@ -215,7 +247,8 @@ sections = repeated sees_section more_sections []
 
 -- globals = VAR_GLOBAL [ keep ] { decl } END_VAR
 unfoldable pub globals : Parser Globals
-globals = node make_globals (take k.VarGlobal >>= λ _. keep >>= λ kp. decls >>= λ ds. take k.EndVar >>= λ _. pure (kp, ds))
+globals = node make_globals (take k.VarGlobal >>= λ _. keep >>= λ kp. decls >>= λ ds.
+    take k.EndVar >>= λ _. pure (kp, ds))
 
 unfoldable pub more_globals : List Globals → Parser (List Globals)
 more_globals found = globals >>= λ x. pure (found ++ x ∷ [])
@@ -228,7 +261,8 @@ globals_list = repeated (sees_in k.VarGlobal) more_globals []
 
 -- names ":" spec [ ":=" init ] ";"
 unfoldable pub fields : Parser Fields
-fields = node make_fields (names >>= λ ns. take k.Colon >>= λ _. spec >>= λ s. optional_init >>= λ i. take k.Semicolon >>= λ _. pure (ns, s, i))
+fields = node make_fields (names >>= λ ns. take k.Colon >>= λ _. spec >>= λ s.
+    optional_init >>= λ i. take k.Semicolon >>= λ _. pure (ns, s, i))
 
 unfoldable pub more_fields : List Fields → Parser (List Fields)
 more_fields found = fields >>= λ x. pure (found ++ x ∷ [])
@@ -239,14 +273,16 @@ fields_list = repeated (sees_in k.Name) more_fields []
 
 -- struct = STRUCT { names ":" spec [ ":=" init ] ";" } END_STRUCT
 unfoldable pub struct_shape : Parser Shape
-struct_shape = node make_struct (take k.Struct >>= λ _. fields_list >>= λ found. take k.EndStruct >>= λ _. pure found)
+struct_shape = node make_struct (take k.Struct >>= λ _. fields_list >>= λ found.
+    take k.EndStruct >>= λ _. pure found)
 
 unfoldable pub shape : Parser Shape
 shape = choose (sees_in k.Struct) struct_shape (spec >>= λ s. pure (shape_kind.Spec s))
 
 -- name ":" ( spec | struct ) [ ":=" init ] ";"
 unfoldable pub type_decl : Parser TypeDecl
-type_decl = node make_type_decl (identifier >>= λ name. take k.Colon >>= λ _. shape >>= λ s. optional_init >>= λ i. take k.Semicolon >>= λ _. pure (name, s, i))
+type_decl = node make_type_decl (identifier >>= λ name. take k.Colon >>= λ _. shape >>= λ s.
+    optional_init >>= λ i. take k.Semicolon >>= λ _. pure (name, s, i))
 
 unfoldable pub more_type_decls : List TypeDecl → Parser (List TypeDecl)
 more_type_decls found = type_decl >>= λ x. pure (found ++ x ∷ [])
@@ -257,13 +293,15 @@ type_decls = repeated (sees_in k.Name) more_type_decls []
 
 -- types = TYPE { name ":" ( spec | struct ) [ ":=" init ] ";" } END_TYPE
 unfoldable pub types : Parser Types
-types = node make_types (take k.Type >>= λ _. type_decls >>= λ found. take k.EndType >>= λ _. pure found)
+types = node make_types (take k.Type >>= λ _. type_decls >>= λ found. take k.EndType >>= λ _.
+    pure found)
 
 -- ---- configurations
 
 -- name ":=" expr
 unfoldable pub parameter : Parser Parameter
-parameter = node make_parameter (identifier >>= λ name. take k.Becomes >>= λ _. expression >>= λ x. pure (name, x))
+parameter = node make_parameter (identifier >>= λ name. take k.Becomes >>= λ _. expression >>= λ x.
+    pure (name, x))
 
 unfoldable pub more_parameters : List Parameter → Parser (List Parameter)
 more_parameters found = take k.Comma >>= λ _. parameter >>= λ x. pure (found ++ x ∷ [])
@@ -273,11 +311,13 @@ parameter_list = parameter >>= λ x. repeated (sees_in k.Comma) more_parameters 
 
 -- "(" name ":=" expr { "," name ":=" expr } ")"
 unfoldable pub parameters : Parser (List Parameter)
-parameters = scoped (enter k.OpenParenthesis >>= λ _. parameter_list >>= λ found. take k.CloseParenthesis >>= λ _. pure found)
+parameters = scoped (enter k.OpenParenthesis >>= λ _. parameter_list >>= λ found.
+    take k.CloseParenthesis >>= λ _. pure found)
 
 -- TASK name "(" name ":=" expr { "," name ":=" expr } ")" ";"
 unfoldable pub task : Parser Task
-task = node make_task (take k.Task >>= λ _. identifier >>= λ name. parameters >>= λ found. take k.Semicolon >>= λ _. pure (name, found))
+task = node make_task (take k.Task >>= λ _. identifier >>= λ name. parameters >>= λ found.
+    take k.Semicolon >>= λ _. pure (name, found))
 
 unfoldable pub more_tasks : List Task → Parser (List Task)
 more_tasks found = task >>= λ x. pure (found ++ x ∷ [])
@@ -294,7 +334,9 @@ optional_task = choose (sees_in k.With) with_task (pure None)
 
 -- PROGRAM name [ WITH name ] ":" name ";"
 unfoldable pub program_line : Parser ProgramLine
-program_line = node make_line (take k.Program >>= λ _. identifier >>= λ name. optional_task >>= λ t. take k.Colon >>= λ _. identifier >>= λ program. take k.Semicolon >>= λ _. pure (name, t, program))
+program_line = node make_line (take k.Program >>= λ _. identifier >>= λ name. optional_task >>= λ t.
+    take k.Colon >>= λ _. identifier >>= λ program. take k.Semicolon >>= λ _.
+    pure (name, t, program))
 
 unfoldable pub more_lines : List ProgramLine → Parser (List ProgramLine)
 more_lines found = program_line >>= λ x. pure (found ++ x ∷ [])
@@ -302,13 +344,16 @@ more_lines found = program_line >>= λ x. pure (found ++ x ∷ [])
 unfoldable pub line_list : Parser (List ProgramLine)
 line_list = repeated (sees_in k.Program) more_lines []
 
--- tasks = { TASK name "(" name ":=" expr { "," name ":=" expr } ")" ";" } { PROGRAM name [ WITH name ] ":" name ";" }
+-- tasks = { TASK name "(" name ":=" expr { "," name ":=" expr } ")" ";" } { PROGRAM name [ WITH
+-- name ] ":" name ";" }
 unfoldable pub tasks : Parser Tasks
 tasks = task_list >>= λ found. line_list >>= λ lines. pure (tasks_of found lines)
 
 -- RESOURCE name ON name { globals } tasks END_RESOURCE
 unfoldable pub resource : Parser Resource
-resource = node make_resource (take k.Resource >>= λ _. identifier >>= λ name. take k.On >>= λ _. identifier >>= λ kind. globals_list >>= λ gs. tasks >>= λ ts. take k.EndResource >>= λ _. pure (name, kind, gs, ts))
+resource = node make_resource (take k.Resource >>= λ _. identifier >>= λ name. take k.On >>= λ _.
+    identifier >>= λ kind. globals_list >>= λ gs. tasks >>= λ ts. take k.EndResource >>= λ _.
+    pure (name, kind, gs, ts))
 
 unfoldable pub more_resources : List Resource → Parser (List Resource)
 more_resources found = resource >>= λ x. pure (found ++ x ∷ [])
@@ -316,6 +361,9 @@ more_resources found = resource >>= λ x. pure (found ++ x ∷ [])
 unfoldable pub resources : Parser (List Resource)
 resources = repeated (sees_in k.Resource) more_resources []
 
--- config = CONFIGURATION name { globals } { RESOURCE name ON name { globals } tasks END_RESOURCE } tasks END_CONFIGURATION
+-- config = CONFIGURATION name { globals } { RESOURCE name ON name { globals } tasks END_RESOURCE }
+-- tasks END_CONFIGURATION
 unfoldable pub config : Parser Config
-config = node make_config (take k.Configuration >>= λ _. identifier >>= λ name. globals_list >>= λ gs. resources >>= λ rs. tasks >>= λ ts. take k.EndConfiguration >>= λ _. pure (name, gs, rs, ts))
+config = node make_config (take k.Configuration >>= λ _. identifier >>= λ name.
+    globals_list >>= λ gs. resources >>= λ rs. tasks >>= λ ts. take k.EndConfiguration >>= λ _.
+    pure (name, gs, rs, ts))

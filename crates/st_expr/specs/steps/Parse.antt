@@ -40,12 +40,18 @@ unfoldable pub operator_as : TokenKind → BinaryOperator → Parser BinaryOpera
 operator_as kind o = operator kind >>= λ _. pure o
 
 unfoldable pub operators : Rank → Parser BinaryOperator
-operators rank.Product = choose (sees_in k.Star) (operator_as k.Star op.Multiply) (choose (sees_in k.Slash) (operator_as k.Slash op.Divide) (operator_as k.Mod op.Modulo))
-operators rank.Sum = choose (sees_in k.Plus) (operator_as k.Plus op.Add) (operator_as k.Minus op.Subtract)
-operators rank.Order = choose (sees_in k.Less) (operator_as k.Less op.Less) (choose (sees_in k.Greater) (operator_as k.Greater op.Greater)
-    (choose (sees_in k.LessEqual) (operator_as k.LessEqual op.LessEqual) (operator_as k.GreaterEqual op.GreaterEqual)))
-operators rank.Equality = choose (sees_in k.Equal) (operator_as k.Equal op.Equal) (operator_as k.NotEqual op.NotEqual)
-operators rank.And = choose (sees_in k.And) (operator_as k.And op.And) (operator_as k.Ampersand op.And)
+operators rank.Product = choose (sees_in k.Star) (operator_as k.Star op.Multiply)
+    (choose (sees_in k.Slash) (operator_as k.Slash op.Divide) (operator_as k.Mod op.Modulo))
+operators rank.Sum =
+    choose (sees_in k.Plus) (operator_as k.Plus op.Add) (operator_as k.Minus op.Subtract)
+operators rank.Order = choose (sees_in k.Less) (operator_as k.Less op.Less)
+    (choose (sees_in k.Greater) (operator_as k.Greater op.Greater)
+    (choose (sees_in k.LessEqual) (operator_as k.LessEqual op.LessEqual)
+    (operator_as k.GreaterEqual op.GreaterEqual)))
+operators rank.Equality =
+    choose (sees_in k.Equal) (operator_as k.Equal op.Equal) (operator_as k.NotEqual op.NotEqual)
+operators rank.And =
+    choose (sees_in k.And) (operator_as k.And op.And) (operator_as k.Ampersand op.And)
 operators rank.Xor = operator_as k.Xor op.Xor
 operators rank.Or = operator_as k.Or op.Or
 
@@ -53,14 +59,16 @@ operators rank.Or = operator_as k.Or op.Or
 unfoldable pub sees_operator : Rank → List Lexeme → Bool
 sees_operator rank.Product ts = sees_in k.Star ts || (sees_in k.Slash ts || sees_in k.Mod ts)
 sees_operator rank.Sum ts = sees_in k.Plus ts || sees_in k.Minus ts
-sees_operator rank.Order ts = sees_in k.Less ts || (sees_in k.Greater ts || (sees_in k.LessEqual ts || sees_in k.GreaterEqual ts))
+sees_operator rank.Order ts = sees_in k.Less ts ||
+    (sees_in k.Greater ts || (sees_in k.LessEqual ts || sees_in k.GreaterEqual ts))
 sees_operator rank.Equality ts = sees_in k.Equal ts || sees_in k.NotEqual ts
 sees_operator rank.And ts = sees_in k.And ts || sees_in k.Ampersand ts
 sees_operator rank.Xor ts = sees_in k.Xor ts
 sees_operator rank.Or ts = sees_in k.Or ts
 
 unfoldable pub step : Parser BinaryOperator → Parser Expr → ℕ → Expr → Parser Expr
-step operator operand start left = node (λ _ end q. make_binary start end left q) (operator >>= λ o. operand >>= λ x. pure (o, x))
+step operator operand start left =
+    node (λ _ end q. make_binary start end left q) (operator >>= λ o. operand >>= λ x. pure (o, x))
 
 -- whether a part of a path comes next
 unfoldable pub sees_part : List Lexeme → Bool
@@ -70,7 +78,8 @@ unfoldable pub field : Parser Part
 field = take k.Dot >>= λ _. identifier >>= λ i. pure (part.Field i)
 
 unfoldable pub any_root : Parser Root
-any_root = choose (sees_in k.Name) (identifier >>= λ i. pure (root.Name i)) (address >>= λ a. pure (root.Address a))
+any_root = choose (sees_in k.Name) (identifier >>= λ i. pure (root.Name i)) (address
+    >>= λ a. pure (root.Address a))
 
 unfoldable pub number : Parser Expr
 number = node (make_number false) (word k.Number)
@@ -93,7 +102,8 @@ module _ (inner : Parser Expr) where
   exprs = inner >>= λ x. repeated (sees_in k.Comma) more_exprs (x ∷ [])
 
   unfoldable pub index : Parser Part
-  index = node make_index (scoped (enter k.OpenBracket >>= λ _. exprs >>= λ xs. take k.CloseBracket >>= λ _. pure xs))
+  index = node make_index (scoped (enter k.OpenBracket >>= λ _. exprs >>= λ xs. take k.CloseBracket
+      >>= λ _. pure xs))
 
   unfoldable pub one_part : Parser Part
   one_part = choose (sees_in k.Dot) field index
@@ -114,19 +124,22 @@ module _ (inner : Parser Expr) where
   named_argument = identifier >>= λ i. take k.Becomes >>= λ _. inner >>= λ x. pure (Some i, x)
 
   unfoldable pub argument : Parser Argument
-  argument = node make_argument (choose (sees_two k.Name k.Becomes) named_argument (inner >>= λ x. pure (None, x)))
+  argument = node make_argument (choose (sees_two k.Name k.Becomes) named_argument (inner
+      >>= λ x. pure (None, x)))
 
   unfoldable pub more_arguments : List Argument → Parser (List Argument)
   more_arguments found = take k.Comma >>= λ _. argument >>= λ a. pure (found ++ a ∷ [])
 
   unfoldable pub arguments : Parser (List Argument)
-  arguments = choose (sees_in k.CloseParenthesis) (pure []) (argument >>= λ a. repeated (sees_in k.Comma) more_arguments (a ∷ []))
+  arguments = choose (sees_in k.CloseParenthesis) (pure []) (argument
+      >>= λ a. repeated (sees_in k.Comma) more_arguments (a ∷ []))
 
   unfoldable pub value_ending : Identifier → Parser Ending
   value_ending name = take k.Hash >>= λ _. identifier >>= λ v. pure (value_of name v)
 
   unfoldable pub called : Parser (List Argument)
-  called = scoped (enter k.OpenParenthesis >>= λ _. arguments >>= λ found. take k.CloseParenthesis >>= λ _. pure found)
+  called = scoped (enter k.OpenParenthesis >>= λ _. arguments >>= λ found. take k.CloseParenthesis
+      >>= λ _. pure found)
 
   unfoldable pub call_ending : Identifier → Parser Ending
   call_ending name = called >>= λ found. pure (call_of name found)
@@ -135,10 +148,12 @@ module _ (inner : Parser Expr) where
   path_ending name = parts >>= λ ps. pure (path_of (root.Name name) ps)
 
   unfoldable pub named : Parser Expr
-  named = node ended (identifier >>= λ name. choose (sees_in k.Hash) (value_ending name) (choose (sees_in k.OpenParenthesis) (call_ending name) (path_ending name)))
+  named = node ended (identifier >>= λ name. choose (sees_in k.Hash) (value_ending name)
+      (choose (sees_in k.OpenParenthesis) (call_ending name) (path_ending name)))
 
   unfoldable pub group : Parser Expr
-  group = node make_parenthesized (scoped (enter k.OpenParenthesis >>= λ _. inner >>= λ x. take k.CloseParenthesis >>= λ _. pure x))
+  group = node make_parenthesized (scoped (enter k.OpenParenthesis >>= λ _. inner
+      >>= λ x. take k.CloseParenthesis >>= λ _. pure x))
 
   unfoldable pub placed : Parser Expr
   placed = choose (sees_in k.Address) (located >>= λ p. pure (expr.Path p)) named
@@ -147,7 +162,8 @@ module _ (inner : Parser Expr) where
   bracketed = choose (sees_in k.OpenParenthesis) group placed
 
   unfoldable pub true_or_other : Parser Expr
-  true_or_other = choose (sees_in k.True) (truth k.True true) (choose (sees_in k.False) (truth k.False false) bracketed)
+  true_or_other = choose (sees_in k.True) (truth k.True true)
+      (choose (sees_in k.False) (truth k.False false) bracketed)
 
   unfoldable pub other : Parser Expr
   other = choose (sees_in k.TypedNumber) typed (choose (sees_in k.Duration) time true_or_other)
@@ -162,7 +178,8 @@ module _ (inner : Parser Expr) where
   negated_ending = deeper other >>= λ x. pure (negated_of x)
 
   unfoldable pub signed : Parser Expr
-  signed = node ended (take k.Minus >>= λ _. choose (sees_in k.Number) literal_ending negated_ending)
+  signed = node ended (take k.Minus >>= λ _. choose (sees_in k.Number) literal_ending
+      negated_ending)
 
   unfoldable pub inverted : Parser Expr
   inverted = node make_inverted (operator k.Not >>= λ _. primary)
@@ -172,11 +189,13 @@ module _ (inner : Parser Expr) where
 
   unfoldable pub level : ℕ → Parser Expr
   level zero = unary
-  level (suc n) = node from_start (level n) >>= λ q. repeated (sees_operator (rank_of n)) (step (operators (rank_of n)) (level n) q.1) q.0
+  level (suc n) = node from_start (level n) >>= λ q. repeated (sees_operator (rank_of n))
+      (step (operators (rank_of n)) (level n) q.1) q.0
 
   -- what a level adds to the one below: operators of its rank, behind a first operand
   unfoldable pub chain : ℕ → ℕ → Expr → Parser Expr
-  chain n start left = repeated (sees_operator (rank_of n)) (step (operators (rank_of n)) (level n) start) left
+  chain n start left =
+      repeated (sees_operator (rank_of n)) (step (operators (rank_of n)) (level n) start) left
 
   unfoldable pub whole : Parser Expr
   whole = scoped (level 7)

@@ -1,5 +1,6 @@
--- Statements as the code reads them: a leading name first, and what may follow it behind; a CASE as one list of labels and statements. These
--- rules spell what those of the grammar do. A step on the way from the code to the grammar.
+-- Statements as the code reads them: a leading name first, and what may follow it behind; a CASE as
+-- one list of labels and statements. These rules spell what those of the grammar do. A step on the
+-- way from the code to the grammar.
 use Rattle.std.specs.Prelude.{ℕ, zero, suc, List, [], ◌∷◌, ◌++◌}
 use Rattle.token_grammar.specs.declared.token.TokenKind.TheVariants as k
 use Rattle.token_grammar.specs.Grammar.{Rule, ◌>>=◌, ◌or◌, give, token, node, many}
@@ -16,7 +17,8 @@ call_behind name = called >>= λ found. token k.Semicolon >>= λ l. give (call_f
 
 -- name { part } ":=" expr ";"
 abbrev pub assign_behind : Identifier → Rule Stmt
-assign_behind name = parts expression >>= λ ps. token k.Becomes >>= λ _. expression >>= λ x. token k.Semicolon >>= λ l. give (assign_from name (path_from name ps) x l.end)
+assign_behind name = parts expression >>= λ ps. token k.Becomes >>= λ _. expression
+    >>= λ x. token k.Semicolon >>= λ l. give (assign_from name (path_from name ps) x l.end)
 
 abbrev pub behind_name : Identifier → Rule Stmt
 behind_name name = call_behind name or assign_behind name
@@ -28,33 +30,41 @@ named = identifier >>= behind_name
 
 -- address { part } ":=" expr ";"
 abbrev pub assign : Rule Stmt
-assign = node make_assign (located expression >>= λ target. token k.Becomes >>= λ _. expression >>= λ x. token k.Semicolon >>= λ _. give (target, x))
+assign = node make_assign (located expression >>= λ target. token k.Becomes
+    >>= λ _. expression >>= λ x. token k.Semicolon >>= λ _. give (target, x))
 
 -- ---- over statements that don't begin with a name
 
 module _ (inner : Rule Stmt) where
   abbrev pub item : List Stmt → Rule (List Stmt)
-  item found = (token k.Semicolon >>= λ _. give found) or ((named >>= λ s. give (found ++ s ∷ [])) or (inner >>= λ s. give (found ++ s ∷ [])))
+  item found = (token k.Semicolon >>= λ _. give found)
+      or ((named >>= λ s. give (found ++ s ∷ [])) or (inner >>= λ s. give (found ++ s ∷ [])))
 
   abbrev pub body : Rule (List Stmt)
   body = many item []
 
   -- What may follow the first labels of a CASE: an empty statement, labels, or a statement.
   abbrev pub case_behind : Branches → Identifier → Rule Branches
-  case_behind b name = (point_behind name >>= λ first. labels_behind first >>= λ ls. give (with_labels b ls)) or (behind_name name >>= λ s. give (with_stmt b s))
+  case_behind b name =
+      (point_behind name >>= λ first. labels_behind first >>= λ ls. give (with_labels b ls))
+      or (behind_name name >>= λ s. give (with_stmt b s))
 
   abbrev pub case_item : Branches → Rule Branches
   case_item b = (token k.Semicolon >>= λ _. give b) or ((identifier >>= case_behind b)
-      or ((value_point >>= λ first. labels_behind first >>= λ ls. give (with_labels b ls)) or (inner >>= λ s. give (with_stmt b s))))
+      or ((value_point >>= λ first. labels_behind first >>= λ ls. give (with_labels b ls))
+      or (inner >>= λ s. give (with_stmt b s))))
 
   abbrev pub branches : Rule (List Case)
   branches = labels >>= λ ls. many case_item (labelled ls) >>= λ b. give (closed b)
 
   -- a statement that doesn't begin with a name
   abbrev pub unnamed : Rule Stmt
-  unnamed = return_stmt or (exit_stmt or (continue_stmt or (choice body or (selection_of body branches or (counted body or (while_stmt body or (repeat_stmt body or assign)))))))
+  unnamed = return_stmt or (exit_stmt or (continue_stmt
+      or (choice body or (selection_of body branches
+      or (counted body or (while_stmt body or (repeat_stmt body or assign)))))))
 
--- A statement that doesn't begin with a name, in which such statements nest less deep than the number.
+-- A statement that doesn't begin with a name, in which such statements nest less deep than the
+-- number.
 unfoldable pub nested : ℕ → Rule Stmt
 nested zero d w x e = ⊥
 nested (suc n) d w x e = unnamed (nested n) d w x e

@@ -6,8 +6,10 @@ use Rattle.st_statements.proofs.statements.+statement_at.Goals as goal
 
 pub returns-then-nest-eq0 : goal.returns-then-nest-eq0
 unfolding nested
-returns-then-nest-eq0 t c _ = let none : c.args.nest ≡ 0 = omega arith in ap (λ n. nested n (view c.args.cursor.now)) none
+returns-then-nest-eq0 t c _ =
+    let none : c.args.nest ≡ 0 = omega arith in ap (λ n. nested n (view c.args.cursor.now)) none
 
 pub returns : goal.returns
 unfolding nested
-returns t c = rw (deeper (λ n. nested n (view c.args.cursor.now)) c.args.nest (omega arith)) c.unnamed.ensures
+returns t c = rw (deeper (λ n. nested n (view c.args.cursor.now)) c.args.nest (omega arith))
+    c.unnamed.ensures

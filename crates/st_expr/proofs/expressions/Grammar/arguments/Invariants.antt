@@ -5,4 +5,5 @@ use Rattle.st_expr.specs.steps.Parse.{nested, arguments, more_arguments}
 use Rattle.st_expr.proofs.expressions.Grammar.arguments.Given as goal
 
 abbrev pub invariant-loop-turn : goal.invariant-loop-turn
-invariant-loop-turn g l = arguments (nested l.self.nest) (view l.fn.cursor) ≡ loop (sees_in k.Comma) (more_arguments (nested l.self.nest)) (l._turn-end - l._turn) l.found (view l.cursor)
+invariant-loop-turn g l = arguments (nested l.self.nest) (view l.fn.cursor) ≡ loop (sees_in k.Comma)
+    (more_arguments (nested l.self.nest)) (l._turn-end - l._turn) l.found (view l.cursor)

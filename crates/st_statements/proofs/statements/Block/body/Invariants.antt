@@ -4,4 +4,5 @@ use Rattle.st_statements.specs.steps.Parse.{nested, body, item, sees_statement}
 use Rattle.st_statements.proofs.statements.Block.body.Given as goal
 
 abbrev pub invariant-loop-turn : goal.invariant-loop-turn
-invariant-loop-turn g l = body (nested l.self.nest) (view l.fn.cursor) ≡ loop sees_statement (item (nested l.self.nest)) (l._turn-end - l._turn) l.found (view l.cursor)
+invariant-loop-turn g l = body (nested l.self.nest) (view l.fn.cursor) ≡ loop sees_statement
+    (item (nested l.self.nest)) (l._turn-end - l._turn) l.found (view l.cursor)

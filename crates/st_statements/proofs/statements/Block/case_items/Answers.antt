@@ -13,23 +13,31 @@ loop-turn-init g c = first_of (search rules, grind (arith, common_steps))
 pub returns-then-not-sees_case_item : goal.returns-then-not-sees_case_item
 unfolding loop
 returns-then-not-sees_case_item g c =
-    let e = one_more (λ n. loop sees_case_item (case_item (nested c.args.self.now.nest)) n (branches_of c.loop-turn.found) (view c.loop-turn.cursor)) _ c.loop-turn._turn c.loop-turn-test.true c.loop-turn.invariant in
+    let e = one_more (λ n. loop sees_case_item (case_item (nested c.args.self.now.nest)) n
+    (branches_of c.loop-turn.found) (view c.loop-turn.cursor)) _ c.loop-turn._turn
+    c.loop-turn-test.true c.loop-turn.invariant in
     first_of (search rules, grind (arith, common_steps))
 
 pub returns-in_err-found : goal.returns-in_err-found
 unfolding loop
 returns-in_err-found g c =
-    let e = one_more (λ n. loop sees_case_item (case_item (nested c.args.self.now.nest)) n (branches_of c.loop-turn.found) (view c.loop-turn.cursor)) _ c.loop-turn._turn c.loop-turn-test.true c.loop-turn.invariant in
+    let e = one_more (λ n. loop sees_case_item (case_item (nested c.args.self.now.nest)) n
+    (branches_of c.loop-turn.found) (view c.loop-turn.cursor)) _ c.loop-turn._turn
+    c.loop-turn-test.true c.loop-turn.invariant in
     first_of (search rules, grind (arith, common_steps))
 
 pub loop-turn-preserved : goal.loop-turn-preserved
 unfolding loop
 loop-turn-preserved g c =
-    let e = one_more (λ n. loop sees_case_item (case_item (nested c.args.self.now.nest)) n (branches_of c.loop-turn.found) (view c.loop-turn.cursor)) _ c.loop-turn._turn c.loop-turn-test.true c.loop-turn.invariant in
+    let e = one_more (λ n. loop sees_case_item (case_item (nested c.args.self.now.nest)) n
+    (branches_of c.loop-turn.found) (view c.loop-turn.cursor)) _ c.loop-turn._turn
+    c.loop-turn-test.true c.loop-turn.invariant in
     first_of (search rules, grind (arith, common_steps))
 
 pub returns : goal.returns
 unfolding loop
 returns g c =
-    let e = no_more (λ n. loop sees_case_item (case_item (nested c.args.self.now.nest)) n (branches_of c.loop-turn.found) (view c.loop-turn.cursor)) _ c.loop-turn._turn c.loop-turn-test.false c.loop-turn.invariant in
+    let e = no_more (λ n. loop sees_case_item (case_item (nested c.args.self.now.nest)) n
+    (branches_of c.loop-turn.found) (view c.loop-turn.cursor)) _ c.loop-turn._turn
+    c.loop-turn-test.false c.loop-turn.invariant in
     first_of (search rules, grind (arith, common_steps))

@@ -5,4 +5,6 @@ use Rattle.st_statements.specs.steps.Parse.{nested, case_items, case_item, sees_
 use Rattle.st_statements.proofs.statements.Block.case_items.Given as goal
 
 abbrev pub invariant-loop-turn : goal.invariant-loop-turn
-invariant-loop-turn g l = case_items (nested l.self.nest) l.fn.labels (view l.fn.cursor) ≡ loop sees_case_item (case_item (nested l.self.nest)) (l._turn-end - l._turn) (branches_of l.found) (view l.cursor)
+invariant-loop-turn g l = case_items (nested l.self.nest) l.fn.labels (view l.fn.cursor) ≡ loop
+    sees_case_item (case_item (nested l.self.nest)) (l._turn-end - l._turn) (branches_of l.found)
+    (view l.cursor)

@@ -1,9 +1,0 @@
-pub mod Turns
-pub mod Rebuilt
-pub mod Numbers
-pub mod Nodes
-pub mod Laws
-pub mod Declarations
-pub mod Statements
-pub mod Files
-pub mod Parts
