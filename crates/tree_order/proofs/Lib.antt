@@ -4,8 +4,10 @@ mod StatementLists
 mod DeclarationLists
 mod ChartLists
 mod UnitLists
+mod Lists
 mod NodesOfWords
 mod NodeInstances
 mod FileInstances
 mod TokenPlaces
 mod Merging
+mod InOrder

@@ -8,17 +8,15 @@ use Rattle.token_grammar.specs.Kinds.{same_kind}
 use Rattle.token_grammar.specs.Kept.{is_kept}
 use Rattle.token_grammar.specs.Grammar.{Word, lexemes_of}
 use Rattle.st_lexer.specs.Cut.{CutTo, IsBlank}
+use Rattle.st_units.specs.SourceTrees.{is_comment}
 use Rattle.st_tree.specs.declared.node.Node.{Node}
+use Rattle.tree_order.proofs.Lists.{Among}
 use Rattle.tree_order.proofs.NodesOfWords.{Spans, Starts, Ends}
 
 -- The tokens stand one behind the other, within these bounds, each with a byte or more.
 abbrev pub TokensSpan : ℕ → List Token → ℕ → Type 0
 TokensSpan lo [] hi = lo ≤ hi
 TokensSpan lo (t ∷ ts) hi = (lo ≤ t.start) × (t.start < t.end) × TokensSpan t.end ts hi
-
-abbrev pub Among : Token → List Token → Type 0
-Among t [] = ⊥
-Among t (u ∷ us) = (t ≡ u) ⊎ Among t us
 
 -- ---- tokens of a cut
 
@@ -27,7 +25,7 @@ tokens_span [] at bytes place rest c some = omega (arith, c.place_is)
 tokens_span (t ∷ ts) at bytes place rest (more, n, c) some =
     (omega (arith, n.blank.place_is), some t (zero, omega arith, refl), tokens_span ts t.end more place rest c (λ u there. some u (suc there.0, omega (arith, there.1), there.2)))
 
-span_rises : (lo : ℕ) (ts : List Token) (hi : ℕ) → TokensSpan lo ts hi → lo ≤ hi
+pub span_rises : (lo : ℕ) (ts : List Token) (hi : ℕ) → TokensSpan lo ts hi → lo ≤ hi
 span_rises lo [] hi s = s
 span_rises lo (t ∷ ts) hi s = omega (arith, s.0, s.1, span_rises t.end ts hi s.2)
 
@@ -76,9 +74,6 @@ two_apart lo (t ∷ ts) hi a b s (inl same) (inl other) = inl (same ∙ sym othe
 two_apart lo (t ∷ ts) hi a b s (inl same) (inr k) = inr (inl (omega (arith, behind t.end ts hi b s.2 k, ap (λ (u : Token). u.end) same)))
 two_apart lo (t ∷ ts) hi a b s (inr h) (inl other) = inr (inr (omega (arith, behind t.end ts hi a s.2 h, ap (λ (u : Token). u.end) other)))
 two_apart lo (t ∷ ts) hi a b s (inr h) (inr k) = two_apart t.end ts hi a b s.2 h k
-
-abbrev pub is_comment : Token → Bool
-is_comment t = same_kind t.kind kind.Comment
 
 not_both : (b c : Bool) → b ≡ true → not (b || c) ≡ true → ⊥
 not_both true c is kept = absurd cc

@@ -1,0 +1,14 @@
+// What holds of the nodes of trees, as data.
+
+ghost use Rattle.tree_order.specs.Order as laws;
+
+use st_lexer::cut_laws;
+use tree_numbers::numbering_laws;
+
+/// The nodes of each tree, its comments among them, are numbered in the order of the text.
+pub fn order_laws()
+    ensures nodes { laws.NodesInOrder }
+{
+    cut_laws();
+    numbering_laws();
+}
