@@ -11,3 +11,4 @@ mod FileInstances
 mod TokenPlaces
 mod Merging
 mod InOrder
+mod LayerLists
