@@ -82,7 +82,7 @@ same_decl x = rw (same_if nodes_of_address nodes_of_address (λ a. refl) x.addre
 same_section : (x : Section) → nodes_of_section x ≡ of_section decl_nodes x
 same_section x = ap (λ ns. x.node ∷ ns) (same_flat nodes_of_decl (of_decl decl_nodes) same_decl x.decls)
 
-same_globals : (x : Globals) → nodes_of_globals x ≡ of_globals decl_nodes x
+pub same_globals : (x : Globals) → nodes_of_globals x ≡ of_globals decl_nodes x
 same_globals x = ap (λ ns. x.node ∷ ns) (same_flat nodes_of_decl (of_decl decl_nodes) same_decl x.decls)
 
 same_fields : (x : Fields) → nodes_of_fields x ≡ of_fields decl_nodes x
@@ -95,7 +95,7 @@ same_shape (shapes.Structure node members) = ap (λ ns. node ∷ ns) (same_flat 
 same_type_decl : (x : TypeDecl) → nodes_of_type_decl x ≡ of_type_decl decl_nodes x
 same_type_decl x = rw (same_shape x.shape, same_if nodes_of_init nodes_of_init (λ i. refl) x.init) refl
 
-same_types : (x : Types) → nodes_of_types x ≡ of_types decl_nodes x
+pub same_types : (x : Types) → nodes_of_types x ≡ of_types decl_nodes x
 same_types x = ap (λ ns. x.node ∷ ns) (same_flat nodes_of_type_decl (of_type_decl decl_nodes) same_type_decl x.decls)
 
 -- ---- configurations
@@ -109,7 +109,7 @@ same_tasks x = ap (λ ns. flat_map nodes_of_task x.tasks ++ ns) (same_flat nodes
 same_resource : (x : Resource) → nodes_of_resource x ≡ of_resource decl_nodes x
 same_resource x = rw (same_flat nodes_of_globals (of_globals decl_nodes) same_globals x.globals, same_tasks x.tasks) refl
 
-same_config : (x : Config) → nodes_of_config x ≡ of_config decl_nodes x
+pub same_config : (x : Config) → nodes_of_config x ≡ of_config decl_nodes x
 same_config x = rw (same_flat nodes_of_globals (of_globals decl_nodes) same_globals x.globals, same_flat nodes_of_resource (of_resource decl_nodes) same_resource x.resources, same_tasks x.tasks) refl
 
 -- ---- charts
@@ -148,7 +148,7 @@ same_unit_kind (kinds.Function name) = same_type_name name
 same_unit_kind kinds.Block = refl
 same_unit_kind kinds.Program = refl
 
-same_unit : (x : UnitTree) → nodes_of_unit x ≡ of_unit stmt_nodes decl_nodes x
+pub same_unit : (x : UnitTree) → nodes_of_unit x ≡ of_unit stmt_nodes decl_nodes x
 same_unit x = rw (same_unit_kind x.kind, same_flat nodes_of_section (of_section decl_nodes) same_section x.sections, same_body x.body) refl
 
 same_file_part : (x : FilePart) → nodes_of_file_part x ≡ of_file_part stmt_nodes decl_nodes x

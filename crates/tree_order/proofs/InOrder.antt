@@ -231,7 +231,7 @@ numbered_place others place (n ∷ ns) (suc k) = numbered_place others (suc plac
     more : (p k : ℕ) → suc p + k ≡ p + suc k
     more p k = omega arith
 
-numbered_nodes : RightNumbers → (others : List ℕ) (parts : List FilePart) → nodes_of_parts (numbered_parts others parts) ≡ numbered_by (before others) 0 (nodes_of_parts parts)
+pub numbered_nodes : RightNumbers → (others : List ℕ) (parts : List FilePart) → nodes_of_parts (numbered_parts others parts) ≡ numbered_by (before others) 0 (nodes_of_parts parts)
 numbered_nodes numbers others parts =
     same_places (nodes_of_parts (numbered_parts others parts)) (numbered_by (before others) 0 (nodes_of_parts parts))
     (λ k. numbers others parts k ∙ ap (λ p. option_map (numbered_at others p) (slice_get (nodes_of_parts parts) k)) (more k) ∙ sym (numbered_place others 0 (nodes_of_parts parts) k))
@@ -258,25 +258,25 @@ chosen : {A : Type 0} (choose : FilePart → Option A) (nodes : A → List Node)
 chosen choose nodes fits a [] h = h
 chosen choose nodes fits a (p ∷ ps) h = chosen_one nodes a p ps (filter_map choose ps) (choose p) (fits p) (chosen choose nodes fits a ps) h
 
-unit_fits : (p : FilePart) (x : _) → unit_of p ≡ Some x → nodes_of_file_part p ≡ nodes_of_unit x
+pub unit_fits : (p : FilePart) (x : _) → unit_of p ≡ Some x → nodes_of_file_part p ≡ nodes_of_unit x
 unit_fits (part.Unit u) x e = ap nodes_of_unit (first_of u x e)
 unit_fits (part.Types u) x e = absurd cc
 unit_fits (part.Globals u) x e = absurd cc
 unit_fits (part.Config u) x e = absurd cc
 
-types_fit : (p : FilePart) (x : _) → types_of p ≡ Some x → nodes_of_file_part p ≡ nodes_of_types x
+pub types_fit : (p : FilePart) (x : _) → types_of p ≡ Some x → nodes_of_file_part p ≡ nodes_of_types x
 types_fit (part.Unit u) x e = absurd cc
 types_fit (part.Types u) x e = ap nodes_of_types (first_of u x e)
 types_fit (part.Globals u) x e = absurd cc
 types_fit (part.Config u) x e = absurd cc
 
-globals_fit : (p : FilePart) (x : _) → globals_of p ≡ Some x → nodes_of_file_part p ≡ nodes_of_globals x
+pub globals_fit : (p : FilePart) (x : _) → globals_of p ≡ Some x → nodes_of_file_part p ≡ nodes_of_globals x
 globals_fit (part.Unit u) x e = absurd cc
 globals_fit (part.Types u) x e = absurd cc
 globals_fit (part.Globals u) x e = ap nodes_of_globals (first_of u x e)
 globals_fit (part.Config u) x e = absurd cc
 
-config_fits : (p : FilePart) (x : _) → config_of p ≡ Some x → nodes_of_file_part p ≡ nodes_of_config x
+pub config_fits : (p : FilePart) (x : _) → config_of p ≡ Some x → nodes_of_file_part p ≡ nodes_of_config x
 config_fits (part.Unit u) x e = absurd cc
 config_fits (part.Types u) x e = absurd cc
 config_fits (part.Globals u) x e = absurd cc
@@ -347,7 +347,7 @@ module _ (tokens_in : TokensIn) (numbers : RightNumbers) (text : List ℕ) (toke
   comment_spans : TokensSpan (mark_length text) (comments_among tokens) (length text)
   comment_spans = filter_span is_comment (mark_length text) tokens (length text) spans
 
-  merged : Merged 0 (numbered_by (before (starts_of (comments_among tokens))) 0 (nodes_of_parts parts)) (numbered_by (before (places_of parts)) 0 (token_nodes (comments_among tokens)))
+  pub merged : Merged 0 (numbered_by (before (starts_of (comments_among tokens))) 0 (nodes_of_parts parts)) (numbered_by (before (places_of parts)) 0 (token_nodes (comments_among tokens)))
   merged = merge (before (starts_of (comments_among tokens))) (before (places_of parts)) (length (nodes_of_parts parts) + length (token_nodes (comments_among tokens))) 0 0 (mark_length text)
       (nodes_of_parts parts) (token_nodes (comments_among tokens)) (omega arith) placed.1 (inside_bytes (mark_length text) (length text) (nodes_of_parts parts) placed.0)
       (tokens_behind (mark_length text) (comments_among tokens) (length text) comment_spans)

@@ -12,3 +12,4 @@ mod TokenPlaces
 mod Merging
 mod InOrder
 mod LayerLists
+mod PartsInOrder

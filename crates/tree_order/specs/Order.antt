@@ -1,11 +1,12 @@
 -- The order of the nodes of a tree, in terms of its nodes and their bytes alone. Source: this profile. The code gives
 -- each node its number on a way through the tree; nothing here speaks of that way. A list of nodes stands for a
 -- collection: it is asked what it contains and how often, never in which order.
-use Rattle.std.specs.Prelude.{◌≡◌, ◌⊎◌, ℕ, ◌<◌, ◌≤◌, List, ◌++◌, map, length, Contains, count_by, flat_map, nat_eq}
+use Rattle.std.specs.Prelude.{◌≡◌, ◌⊎◌, ℕ, ◌<◌, ◌≤◌, List, ◌++◌, map, length, Contains, count_by, flat_map, nat_eq, Some}
 use Rattle.st_tree.specs.declared.node.Node.{Node}
 use Rattle.st_tree.specs.declared.file.SourceTree.{SourceTree}
 use Rattle.tree_numbers.specs.NodeLists.{nodes_of_unit, nodes_of_types, nodes_of_globals, nodes_of_config}
 use Rattle.st_units.specs.SourceTrees.{IsTreeOf}
+use Rattle.tree_order.specs.Subtrees.{Tree, layer_of, Holds, IsPartOf}
 
 -- the nodes of a tree, its comments among them
 abbrev pub nodes_of_tree : SourceTree → List Node
@@ -44,3 +45,14 @@ pub record AreInOrder (bytes : ℕ) (nodes : List Node) : Type 0 where
 -- So are the nodes of each tree.
 abbrev pub NodesInOrder : Type 0
 NodesInOrder = (text : List ℕ) (tree : SourceTree) → IsTreeOf text tree → AreInOrder (length text) (nodes_of_tree tree)
+
+-- The node of each tree in a file is one of them,
+abbrev pub NodesOfParts : Type 0
+NodesOfParts = (tree : SourceTree) (part : Tree) (node : Node) → IsPartOf tree part → (layer_of part).node ≡ Some node → Contains (nodes_of_tree tree) node
+
+-- and comes before those of the trees within: so a path comes before its only name, of the same bytes.
+abbrev pub PartsInOrder : Type 0
+PartsInOrder =
+    (text : List ℕ) (tree : SourceTree) → IsTreeOf text tree →
+    (outer inner : Tree) (a b : Node) → IsPartOf tree outer → Holds outer inner →
+    (layer_of outer).node ≡ Some a → (layer_of inner).node ≡ Some b → number_of a < number_of b
