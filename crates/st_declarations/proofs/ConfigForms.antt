@@ -14,8 +14,9 @@ use Rattle.st_declarations.specs.Grammar as g
 use Rattle.st_declarations.specs.steps.Parse as p
 use Rattle.st_expr.proofs.Leaves.{form_identifier, level_identifier}
 use Rattle.st_expr.proofs.Exactness.{goes_on, level_expression}
-use Rattle.st_expr.proofs.Lists.{Here, one_kind, stays, into, exact_each, level_each, loose_each, exact_commas, exact_last, starts_last, level_last}
+use Rattle.st_expr.proofs.Lists.{Here, stays, into, level_each, loose_each, exact_last, starts_last, level_last}
 use Rattle.st_expr.proofs.Exactness.{form_expression}
+use Rattle.st_declarations.proofs.ListForms.{exact_list_of, exact_commas_of}
 use Rattle.st_declarations.proofs.DeclForms.{exact_globals_list, level_globals_list}
 
 -- ---- tasks
@@ -31,9 +32,9 @@ level_parameter : IsLevel g.parameter
 level_parameter = level_node make_parameter (level_bind level_identifier
     (λ name. level_then k.Becomes (λ _. level_bind level_expression (λ x. level_give (name, x)))))
 
-exact_parameter_list : Exact Here p.parameter_list g.parameter_list (sees_any (k.Comma ∷ goes_on))
-unfolding p.parameter_list p.more_parameters
-exact_parameter_list = exact_commas 257 goes_on form_parameter.exact refl level_parameter
+exact_parameter_list : Exact Here (p.commas p.parameter) (g.commas g.parameter)
+    (sees_any (k.Comma ∷ goes_on))
+exact_parameter_list = exact_commas_of 257 goes_on form_parameter.exact refl level_parameter
 
 form_parameters : Form Here p.parameters g.parameters (k.OpenParenthesis ∷ []) []
 unfolding p.parameters
@@ -49,16 +50,15 @@ unfolding p.task
 form_task = form_node make_task (form_take {W = Here} {es = []} k.Task 0 0
     (λ _. (form_then {W = Here} {es = []} form_identifier
     (λ name. exact_last [] k.Semicolon (λ found. (name, found)) form_parameters.exact refl)
-        (level_carries Here level_identifier)).exact) (stays 257))
+    (level_carries Here level_identifier)).exact) (stays 257))
 
 level_task : IsLevel g.task
 level_task = level_node make_task (level_then k.Task
     (λ _. level_bind level_identifier (λ name. level_bind level_parameters
     (λ found. level_last k.Semicolon (name, found)))))
 
-exact_task_list : Exact Here p.task_list g.task_list (sees_any (k.Task ∷ []))
-unfolding p.task_list p.more_tasks
-exact_task_list = exact_each (one_kind k.Task) form_task refl level_task
+exact_task_list : Exact Here (p.each k.Task p.task) (g.each g.task) (sees_any (k.Task ∷ []))
+exact_task_list = exact_list_of k.Task form_task refl level_task
 
 -- ---- programs under tasks
 
@@ -81,9 +81,9 @@ form_line = form_node make_line (form_take {W = Here} {es = []} k.Program 0 0
     (λ _. (form_then {W = Here} {es = []} form_identifier
     (λ name. bind_starts {W = Here} (k.With ∷ []) exact_optional_task
     (λ t. (form_take {W = Here} {es = []} k.Colon 0 0
-        (λ _. (form_then {W = Anywhere} {es = []} form_identifier
-        (λ program. (form_last k.Semicolon (name, t, program)).exact) (anywhere Here _)).exact)
-        (stays 257)).exact)
+    (λ _. (form_then {W = Anywhere} {es = []} form_identifier
+    (λ program. (form_last k.Semicolon (name, t, program)).exact) (anywhere Here _)).exact)
+    (stays 257)).exact)
     (level_carries Here level_optional_task) (λ t. starts_bind (starts_token k.Colon 0 0)) refl)
     (level_carries Here level_identifier)).exact) (stays 257))
 
@@ -93,9 +93,9 @@ level_line = level_node make_line (level_then k.Program
     (λ t. level_then k.Colon (λ _. level_bind level_identifier
     (λ program. level_last k.Semicolon (name, t, program)))))))
 
-exact_line_list : Exact Here p.line_list g.line_list (sees_any (k.Program ∷ []))
-unfolding p.line_list p.more_lines
-exact_line_list = exact_each (one_kind k.Program) form_line refl level_line
+exact_line_list : Exact Here (p.each k.Program p.program_line) (g.each g.program_line)
+    (sees_any (k.Program ∷ []))
+exact_line_list = exact_list_of k.Program form_line refl level_line
 
 abbrev task_kinds : List TokenKind
 task_kinds = k.Task ∷ k.Program ∷ []
@@ -106,7 +106,7 @@ exact_tasks = bind_loose {W = Here} (k.Task ∷ []) (k.Program ∷ []) exact_tas
     (λ found. bind_give (tasks_of found) exact_line_list)
     (level_carries Here (level_each level_task))
     (λ found. loose_bind (loose_each form_line.starts)
-        (λ lines. loose_give (tasks_of found lines))) refl
+    (λ lines. loose_give (tasks_of found lines))) refl
 
 pub level_tasks : IsLevel g.tasks
 level_tasks = level_bind (level_each level_task)
@@ -134,11 +134,11 @@ unfolding p.resource
 form_resource = form_node make_resource (form_take {W = Here} {es = []} k.Resource 0 0
     (λ _. (form_then {W = Here} {es = []} form_identifier
     (λ name. (form_take {W = Here} {es = []} k.On 0 0
-        (λ _. (form_then {W = Here} {es = []} form_identifier
+    (λ _. (form_then {W = Here} {es = []} form_identifier
     (λ kind. bind_starts {W = Here} (k.VarGlobal ∷ []) exact_globals_list
-        (λ gs. exact_ended k.EndResource (λ ts. (name, kind, gs, ts)) refl)
-        (level_carries Here level_globals_list)
-        (λ gs. starts_ended k.EndResource (λ ts. (name, kind, gs, ts))) refl)
+    (λ gs. exact_ended k.EndResource (λ ts. (name, kind, gs, ts)) refl)
+    (level_carries Here level_globals_list)
+    (λ gs. starts_ended k.EndResource (λ ts. (name, kind, gs, ts))) refl)
     (level_carries Here level_identifier)).exact) (stays 257)).exact)
     (level_carries Here level_identifier)).exact) (stays 257))
 
@@ -148,9 +148,9 @@ level_resource = level_node make_resource (level_then k.Resource
     (λ _. level_bind level_identifier (λ kind. level_bind level_globals_list
     (λ gs. level_bind level_tasks (λ ts. level_last k.EndResource (name, kind, gs, ts))))))))
 
-exact_resources : Exact Here p.resources g.resources (sees_any (k.Resource ∷ []))
-unfolding p.resources p.more_resources
-exact_resources = exact_each (one_kind k.Resource) form_resource refl level_resource
+exact_resources : Exact Here (p.each k.Resource p.resource) (g.each g.resource)
+    (sees_any (k.Resource ∷ []))
+exact_resources = exact_list_of k.Resource form_resource refl level_resource
 
 pub form_config : Form Here p.config g.config (k.Configuration ∷ []) []
 unfolding p.config
@@ -158,11 +158,11 @@ form_config = form_node make_config (form_take {W = Here} {es = []} k.Configurat
     (λ _. (form_then {W = Here} {es = []} form_identifier
     (λ name. bind_starts {W = Here} (k.VarGlobal ∷ []) exact_globals_list
     (λ gs. bind_starts {W = Here} (k.Resource ∷ []) exact_resources
-        (λ rs. exact_ended k.EndConfiguration (λ ts. (name, gs, rs, ts)) refl)
-        (level_carries Here (level_each level_resource))
-        (λ rs. starts_ended k.EndConfiguration (λ ts. (name, gs, rs, ts))) refl)
+    (λ rs. exact_ended k.EndConfiguration (λ ts. (name, gs, rs, ts)) refl)
+    (level_carries Here (level_each level_resource))
+    (λ rs. starts_ended k.EndConfiguration (λ ts. (name, gs, rs, ts))) refl)
     (level_carries Here level_globals_list) (λ gs. loose_then (loose_each form_resource.starts)
-        (λ rs. starts_ended k.EndConfiguration (λ ts. (name, gs, rs, ts)))) refl)
+    (λ rs. starts_ended k.EndConfiguration (λ ts. (name, gs, rs, ts)))) refl)
     (level_carries Here level_identifier)).exact) (stays 257))
 
 pub level_config : IsLevel g.config

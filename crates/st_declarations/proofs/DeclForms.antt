@@ -23,7 +23,8 @@ use Rattle.st_expr.proofs.Leaves.{form_identifier, level_identifier, form_addres
 use Rattle.st_expr.proofs.Exactness.{goes_on}
 use Rattle.st_expr.proofs.NameLists.{form_names, level_names}
 use Rattle.st_expr.proofs.Operators.{or_is, last_is}
-use Rattle.st_expr.proofs.Lists.{Here, one_kind, stays, exact_each, level_each, loose_each, exact_last, starts_last, level_last}
+use Rattle.st_expr.proofs.Lists.{Here, stays, exact_each, level_each, loose_each, exact_last, starts_last, level_last}
+use Rattle.st_declarations.proofs.ListForms.{exact_list_of}
 use Rattle.st_declarations.proofs.SpecForms.{form_spec, level_spec, spec_kinds, spec_ends}
 use Rattle.st_declarations.proofs.InitForms.{exact_optional_init, level_optional_init, loose_optional_init}
 
@@ -64,21 +65,20 @@ unfolding p.decl
 form_decl = form_node make_decl (form_next {W = Here} {es = []} form_names
     (λ ns. bind_starts {W = Here} (k.At ∷ []) exact_address
     (λ a. (form_take {W = Here} {es = []} k.Colon 0 0
-        (λ _. (form_next {W = Here} {es = []} form_spec (λ s. exact_ending (λ i. (ns, a, s, i)))
-        (λ s. starts_ending (λ i. (ns, a, s, i))) refl (level_carries Here level_spec)).exact)
-        (stays 257)).exact)
+    (λ _. (form_next {W = Here} {es = []} form_spec (λ s. exact_ending (λ i. (ns, a, s, i)))
+    (λ s. starts_ending (λ i. (ns, a, s, i))) refl (level_carries Here level_spec)).exact)
+    (stays 257)).exact)
     (level_carries Here level_located) (λ a. starts_bind (starts_token k.Colon 0 0)) refl)
     (λ ns. loose_then (loose_optional None form_located.starts)
-        (λ a. starts_bind (starts_token k.Colon 0 0))) refl (level_carries Here level_names))
+    (λ a. starts_bind (starts_token k.Colon 0 0))) refl (level_carries Here level_names))
 
 pub level_decl : IsLevel g.decl
 level_decl = level_node make_decl (level_bind level_names
     (λ ns. level_bind level_located (λ a. level_then k.Colon
     (λ _. level_bind level_spec (λ s. level_ending (λ i. (ns, a, s, i)))))))
 
-exact_decls : Exact Here p.decls g.decls (sees_any (k.Name ∷ []))
-unfolding p.decls p.more_decls
-exact_decls = exact_each (one_kind k.Name) form_decl refl level_decl
+exact_decls : Exact Here (p.each k.Name p.decl) (g.each g.decl) (sees_any (k.Name ∷ []))
+exact_decls = exact_list_of k.Name form_decl refl level_decl
 
 -- ---- sections
 
@@ -97,15 +97,15 @@ exact_keep : Exact Here p.keep g.keep (sees_any keep_kinds)
 unfolding p.keep
 exact_keep =
     exact_or_else (k.Retain ∷ k.NonRetain ∷ []) k.Constant
-        (form_keep_as k.Constant keep_kind.Constant)
+    (form_keep_as k.Constant keep_kind.Constant)
     (exact_or_else (k.NonRetain ∷ []) k.Retain
-        (form_keep_as k.Retain keep_kind.Retain)
-        (exact_optional k.NonRetain None (form_keep_as k.NonRetain keep_kind.NonRetain))
+    (form_keep_as k.Retain keep_kind.Retain)
+    (exact_optional k.NonRetain None (form_keep_as k.NonRetain keep_kind.NonRetain))
     (avoids_or k.Retain (avoids_starts k.Retain (starts_last k.NonRetain _) refl)
-        (avoids_give k.Retain None)))
+    (avoids_give k.Retain None)))
     (avoids_or k.Constant (avoids_starts k.Constant (starts_last k.Retain _) refl)
-        (avoids_or k.Constant (avoids_starts k.Constant (starts_last k.NonRetain _) refl)
-        (avoids_give k.Constant None)))
+    (avoids_or k.Constant (avoids_starts k.Constant (starts_last k.NonRetain _) refl)
+    (avoids_give k.Constant None)))
 
 level_keep : IsLevel g.keep
 level_keep = level_or (level_keep_as k.Constant keep_kind.Constant)
@@ -114,16 +114,17 @@ level_keep = level_or (level_keep_as k.Constant keep_kind.Constant)
 
 -- { decl } END_VAR, behind [ keep ]
 exact_kept : {B : Type 0} (make : Option Keep → List Decl → B)
-    → Exact Here (λ c. and_then (p.keep c) (λ kp. λ c. and_then (p.decls c)
+    → Exact Here (λ c. and_then (p.keep c) (λ kp. λ c. and_then (p.each k.Name p.decl c)
     (λ ds. λ c. and_then (take k.EndVar c) (λ _. pure (make kp ds)))))
-    (g.keep >>= λ kp. g.decls >>= λ ds. token k.EndVar >>= λ _. give (make kp ds)) (sees_any [])
+    (g.keep >>= λ kp. g.each g.decl >>= λ ds. token k.EndVar >>= λ _. give (make kp ds))
+    (sees_any [])
 exact_kept make = bind_starts {W = Here} keep_kinds exact_keep
     (λ kp. exact_last (k.Name ∷ []) k.EndVar (make kp) exact_decls refl)
     (level_carries Here level_keep)
     (λ kp. loose_then (loose_each form_decl.starts) (λ ds. starts_last k.EndVar (make kp ds))) refl
 
 level_kept : {B : Type 0} (make : Option Keep → List Decl → B)
-    → IsLevel (g.keep >>= λ kp. g.decls >>= λ ds. token k.EndVar >>= λ _. give (make kp ds))
+    → IsLevel (g.keep >>= λ kp. g.each g.decl >>= λ ds. token k.EndVar >>= λ _. give (make kp ds))
 level_kept make = level_bind level_keep (λ kp. level_bind (level_each level_decl)
     (λ ds. level_last k.EndVar (make kp ds)))
 
@@ -141,16 +142,16 @@ form_section_word = form_or k.Var (form_section_as k.Var section_kind.Var)
     (form_or k.VarInput (form_section_as k.VarInput section_kind.Input)
     (form_or k.VarOutput (form_section_as k.VarOutput section_kind.Output)
     (form_or k.VarInOut (form_section_as k.VarInOut section_kind.InOut)
-        (form_or k.VarExternal (form_section_as k.VarExternal section_kind.External)
-        (form_section_as k.VarTemp section_kind.Temp) refl) refl) refl) refl) refl
+    (form_or k.VarExternal (form_section_as k.VarExternal section_kind.External)
+    (form_section_as k.VarTemp section_kind.Temp) refl) refl) refl) refl) refl
 
 level_section_word : IsLevel g.section_word
 level_section_word = level_or (level_last k.Var section_kind.Var)
     (level_or (level_last k.VarInput section_kind.Input)
     (level_or (level_last k.VarOutput section_kind.Output)
     (level_or (level_last k.VarInOut section_kind.InOut)
-        (level_or (level_last k.VarExternal section_kind.External)
-        (level_last k.VarTemp section_kind.Temp)))))
+    (level_or (level_last k.VarExternal section_kind.External)
+    (level_last k.VarTemp section_kind.Temp)))))
 
 pub form_section : Form Here p.section g.section section_kinds []
 unfolding p.section
@@ -169,7 +170,7 @@ sees_sections ts = or_is (sees_in k.Var ts) _ _
     (last_is (sees_in k.VarTemp ts))))))
 
 pub exact_sections : Exact Here p.sections g.sections (sees_any section_kinds)
-unfolding p.sections p.more_sections
+unfolding p.sections p.more
 exact_sections = exact_each sees_sections form_section refl level_section
 
 pub level_sections : IsLevel g.sections
@@ -184,11 +185,11 @@ pub level_globals : IsLevel g.globals
 level_globals = level_node make_globals (level_then k.VarGlobal
     (λ _. level_kept (λ kp ds. (kp, ds))))
 
-pub exact_globals_list : Exact Here p.globals_list g.globals_list (sees_any (k.VarGlobal ∷ []))
-unfolding p.globals_list p.more_globals
-exact_globals_list = exact_each (one_kind k.VarGlobal) form_globals refl level_globals
+pub exact_globals_list : Exact Here (p.each k.VarGlobal p.globals) (g.each g.globals)
+    (sees_any (k.VarGlobal ∷ []))
+exact_globals_list = exact_list_of k.VarGlobal form_globals refl level_globals
 
-pub level_globals_list : IsLevel g.globals_list
+pub level_globals_list : IsLevel (g.each g.globals)
 level_globals_list = level_each level_globals
 
 -- ---- types
@@ -197,18 +198,17 @@ form_fields : Form Here p.fields g.fields (k.Name ∷ []) []
 unfolding p.fields
 form_fields = form_node make_fields (form_next {W = Here} {es = []} form_names
     (λ ns. (form_take {W = Here} {es = []} k.Colon 0 0
-        (λ _. (form_next {W = Here} {es = []} form_spec (λ s. exact_ending (λ i. (ns, s, i)))
-        (λ s. starts_ending (λ i. (ns, s, i))) refl (level_carries Here level_spec)).exact)
-        (stays 257)).exact)
+    (λ _. (form_next {W = Here} {es = []} form_spec (λ s. exact_ending (λ i. (ns, s, i)))
+    (λ s. starts_ending (λ i. (ns, s, i))) refl (level_carries Here level_spec)).exact)
+    (stays 257)).exact)
     (λ ns. starts_bind (starts_token k.Colon 0 0)) refl (level_carries Here level_names))
 
 level_fields : IsLevel g.fields
 level_fields = level_node make_fields (level_bind level_names
     (λ ns. level_then k.Colon (λ _. level_bind level_spec (λ s. level_ending (λ i. (ns, s, i))))))
 
-exact_fields_list : Exact Here p.fields_list g.fields_list (sees_any (k.Name ∷ []))
-unfolding p.fields_list p.more_fields
-exact_fields_list = exact_each (one_kind k.Name) form_fields refl level_fields
+exact_fields_list : Exact Here (p.each k.Name p.fields) (g.each g.fields) (sees_any (k.Name ∷ []))
+exact_fields_list = exact_list_of k.Name form_fields refl level_fields
 
 form_struct : Form Here p.struct_shape g.struct_shape (k.Struct ∷ []) []
 unfolding p.struct_shape
@@ -229,9 +229,9 @@ form_type_decl : Form Here p.type_decl g.type_decl (k.Name ∷ []) []
 unfolding p.type_decl
 form_type_decl = form_node make_type_decl (form_then {W = Here} {es = []} form_identifier
     (λ name. (form_take {W = Here} {es = []} k.Colon 0 0
-        (λ _. (form_next {W = Here} {es = []} form_shape (λ s. exact_ending (λ i. (name, s, i)))
-        (λ s. starts_ending (λ i. (name, s, i))) refl (level_carries Here level_shape)).exact)
-        (stays 257)).exact)
+    (λ _. (form_next {W = Here} {es = []} form_shape (λ s. exact_ending (λ i. (name, s, i)))
+    (λ s. starts_ending (λ i. (name, s, i))) refl (level_carries Here level_shape)).exact)
+    (stays 257)).exact)
     (level_carries Here level_identifier))
 
 level_type_decl : IsLevel g.type_decl
@@ -239,9 +239,9 @@ level_type_decl = level_node make_type_decl (level_bind level_identifier
     (λ name. level_then k.Colon (λ _. level_bind level_shape
     (λ s. level_ending (λ i. (name, s, i))))))
 
-exact_type_decls : Exact Here p.type_decls g.type_decls (sees_any (k.Name ∷ []))
-unfolding p.type_decls p.more_type_decls
-exact_type_decls = exact_each (one_kind k.Name) form_type_decl refl level_type_decl
+exact_type_decls : Exact Here (p.each k.Name p.type_decl) (g.each g.type_decl)
+    (sees_any (k.Name ∷ []))
+exact_type_decls = exact_list_of k.Name form_type_decl refl level_type_decl
 
 pub form_types : Form Here p.types g.types (k.Type ∷ []) []
 unfolding p.types

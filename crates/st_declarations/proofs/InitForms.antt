@@ -30,7 +30,8 @@ use Rattle.st_expr.specs.steps.Parse.{expression as read_expression}
 use Rattle.st_expr.proofs.Leaves.{form_word, level_word, form_identifier, level_identifier}
 use Rattle.st_expr.proofs.Exactness.{firsts, goes_on, form_expression, level_expression}
 use Rattle.st_expr.proofs.Numbers.{LacksTwo, lacks_first, lacks_or, lacks_bind, number_expression, three_bind, three_expression, number_alone, group_begins}
-use Rattle.st_expr.proofs.Lists.{Here, stays, inward, deeper_in, exact_commas, exact_last}
+use Rattle.st_expr.proofs.Lists.{Here, stays, inward, deeper_in, exact_last}
+use Rattle.st_declarations.proofs.ListForms.{exact_commas_of}
 use Rattle.st_declarations.proofs.Nesting.{form_all, init_sub}
 
 abbrev pub init_kinds : List TokenKind
@@ -94,9 +95,23 @@ module _ (n : ℕ) (inner : Parser Init) (rule : Rule Init)
                 d + 0 + 1,
                 refl,
                 (refl, next, refl),
-                (s.word, close, s.value, s.depth, refl, s.spelled,
-                    (close, [], c, s.depth + 0, refl,
-                    (refl, same_kind_refl k.CloseParenthesis, refl), (refl, refl, refl))),
+                (
+                  s.word,
+                  close,
+                  s.value,
+                  s.depth,
+                  refl,
+                  s.spelled,
+                  (
+                    close,
+                    [],
+                    c,
+                    s.depth + 0,
+                    refl,
+                    (refl, same_kind_refl k.CloseParenthesis, refl),
+                    (refl, refl, refl),
+                  ),
+                ),
               ),
               refl,
             ),
@@ -115,8 +130,19 @@ module _ (n : ℕ) (inner : Parser Init) (rule : Rule Init)
 
   begins_repeated : (d : ℕ) (w : Word) (x : Item) (e : ℕ) → g.repeated_item rule d w x e
       → (rest : List Lexeme) → sees_two k.Number k.OpenParenthesis (lexemes_of w ++ rest) ≡ true
-  begins_repeated d w x e (y, (u, v, text, m, eq, (u1, v1, t1, m1, eq1, (a1, a2, a3), (b1, b2, b3)),
-      (mid, (u2, v2, t2, m2, eq2, (c1, c2, c3), l), same)), made) rest =
+  begins_repeated d w x e (
+    y,
+    (
+      u,
+      v,
+      text,
+      m,
+      eq,
+      (u1, v1, t1, m1, eq1, (a1, a2, a3), (b1, b2, b3)),
+      (mid, (u2, v2, t2, m2, eq2, (c1, c2, c3), l), same),
+    ),
+    made,
+  ) rest =
       rw (eq, eq1, a1, b1, eq2, c1, a2) c2
 
   held_repeated : (last d : ℕ) → Inner n d → (a t : Lexeme) (r : List Lexeme)
@@ -125,17 +151,17 @@ module _ (n : ℕ) (inner : Parser Init) (rule : Rule Init)
   held_repeated last d v a t r is next =
       let (w, x, e, l) = repeated_begins d a t is next in
       held_there form_repeated.exact refl last d v ((a, d + 0) ∷ (t, d + 0 + 1) ∷ [])
-          (a ∷ []) t refl w x e l r
+      (a ∷ []) t refl w x e l r
 
   none_one : HasNone (rule >>= λ x. give (item.One x)) k.Number k.OpenParenthesis (Inner n)
   none_one d v a b w x e (u, u2, y, m, eq, l, (empty, is, same)) first second =
       let whole : u ≡ a ∷ b ∷ w = sym (append-nil u) ∙ ap (λ (v : Word). u ++ v) (sym empty)
-          ∙ sym eq in
+      ∙ sym eq in
       let seen = both_of k.Number k.OpenParenthesis
-          (a.0 ∷ b.0 ∷ (lexemes_of w ++ [])) first second in
+      (a.0 ∷ b.0 ∷ (lexemes_of w ++ [])) first second in
       let clash : true ≡ false = sym seen ∙ sym
-          (ap (λ (u : Word). sees_two k.Number k.OpenParenthesis (lexemes_of u ++ [])) whole)
-          ∙ lacks d u y m l [] refl in
+      (ap (λ (u : Word). sees_two k.Number k.OpenParenthesis (lexemes_of u ++ [])) whole)
+      ∙ lacks d u y m l [] refl in
       cc
 
   exact_item : Exact (Inner n) (p.one_item inner) (g.one_item rule) (sees_any item_ends)
@@ -147,10 +173,9 @@ module _ (n : ℕ) (inner : Parser Init) (rule : Rule Init)
   level_item : IsLevel (g.one_item rule)
   level_item = level_or level_repeated (level_bind level (λ x. level_give (item.One x)))
 
-  exact_items : Exact (Inner n) (p.item_list inner) (g.item_list rule)
+  exact_items : Exact (Inner n) (p.commas (p.one_item inner)) (g.commas (g.one_item rule))
       (sees_any (k.Comma ∷ item_ends))
-  unfolding p.item_list p.more_items
-  exact_items = exact_commas n item_ends exact_item refl level_item
+  exact_items = exact_commas_of n item_ends exact_item refl level_item
 
   form_elements : Form (Inner (suc n)) (p.elements inner) (g.elements rule) (k.OpenBracket ∷ []) []
   unfolding p.elements
@@ -171,10 +196,9 @@ module _ (n : ℕ) (inner : Parser Init) (rule : Rule Init)
   level_field = level_node make_field_init (level_bind level_identifier
       (λ i. level_then k.Becomes (λ _. level_bind level (λ x. level_give (i, x)))))
 
-  exact_fields : Exact (Inner n) (p.field_list inner) (g.field_list rule)
+  exact_fields : Exact (Inner n) (p.commas (p.field_init inner)) (g.commas (g.field_init rule))
       (sees_any (k.Comma ∷ goes_on))
-  unfolding p.field_list p.more_field_inits
-  exact_fields = exact_commas n goes_on form_field.exact refl level_field
+  exact_fields = exact_commas_of n goes_on form_field.exact refl level_field
 
   form_structure : Form (Inner (suc n)) (p.structure inner) (g.structure rule)
       (k.OpenParenthesis ∷ []) []
@@ -208,11 +232,28 @@ module _ (n : ℕ) (inner : Parser Init) (rule : Rule Init)
             name,
             d + 0,
             refl,
-            (b.bytes, ((b, d + 0) ∷ [], [], b, d + 0, refl, (refl, is, refl), (refl, refl, refl)),
-                refl),
-            ((c, d + 0 + 0) ∷ [], s.word, c, d + 0 + 0, refl, (refl, next, refl),
-                (s.word, [], s.value, s.depth, sym (append-nil s.word), s.spelled,
-                (refl, refl, refl))),
+            (
+              b.bytes,
+              ((b, d + 0) ∷ [], [], b, d + 0, refl, (refl, is, refl), (refl, refl, refl)),
+              refl,
+            ),
+            (
+              (c, d + 0 + 0) ∷ [],
+              s.word,
+              c,
+              d + 0 + 0,
+              refl,
+              (refl, next, refl),
+              (
+                s.word,
+                [],
+                s.value,
+                s.depth,
+                sym (append-nil s.word),
+                s.spelled,
+                (refl, refl, refl),
+              ),
+            ),
           ),
           refl,
         ),
@@ -240,10 +281,31 @@ module _ (n : ℕ) (inner : Parser Init) (rule : Rule Init)
               d + 1,
               refl,
               (refl, is, refl),
-              (field, close, x ∷ [], e, refl, (field, [], x, e, sym (append-nil field), l,
-                  (zero, (refl, refl, refl))),
-                  (close, [], z, e + 0, refl, (refl, same_kind_refl k.CloseParenthesis, refl),
-                  (refl, refl, refl))),
+              (
+                field,
+                close,
+                x ∷ [],
+                e,
+                refl,
+                (
+                  field,
+                  [],
+                  x,
+                  e,
+                  sym (append-nil field),
+                  l,
+                  (zero, (refl, refl, refl)),
+                ),
+                (
+                  close,
+                  [],
+                  z,
+                  e + 0,
+                  refl,
+                  (refl, same_kind_refl k.CloseParenthesis, refl),
+                  (refl, refl, refl),
+                ),
+              ),
             ),
             refl,
           ),
@@ -254,19 +316,73 @@ module _ (n : ℕ) (inner : Parser Init) (rule : Rule Init)
   value_begins : BeginsTwo (expression >>= λ x. give (init.Value x)) k.OpenParenthesis k.Name
       (λ d. d + 1) (λ d. d + 1 + 0)
   value_begins d a b is next =
-      let (w, x, e, l) = group_begins d a b is next in
-      (w, init.Value x, e, ((a, d + 1) ∷ (b, d + 1 + 0) ∷ w, [], x, e,
-          sym (append-nil ((a, d + 1) ∷ (b, d + 1 + 0) ∷ w)), l, (refl, refl, refl)))
+      let (w, x, e, l) = group_begins d a b is next in (
+        w,
+        init.Value x,
+        e,
+        (
+          (a, d + 1) ∷ (b, d + 1 + 0) ∷ w,
+          [],
+          x,
+          e,
+          sym (append-nil ((a, d + 1) ∷ (b, d + 1 + 0) ∷ w)),
+          l,
+          (refl, refl, refl),
+        ),
+      )
 
   begins_structure : (d : ℕ) (w : Word) (x : Init) (e : ℕ) → g.structure rule d w x e
       → (rest : List Lexeme) → sees_three k.OpenParenthesis k.Name k.Becomes (lexemes_of w ++ rest)
       ≡ true
-  begins_structure d w x e
-      (xs, (mid, (u, v, t, m, eq, (o1, o2, o3),
-      (u1, v1, ys, m1, eq1, (u2, v2, y, m2, eq2,
-      (pair, (u3, v3, i, m3, eq3, (text, (u4, v4, t4, m4, eq4, (a1, a2, a3), (b1, b2, b3)),
-      made_name), (u5, v5, t5, m5, eq5, (c1, c2, c3), l5)), made_field), l2), l1)), same),
-      made) rest =
+  begins_structure d w x e (
+    xs,
+    (
+      mid,
+      (
+        u,
+        v,
+        t,
+        m,
+        eq,
+        (o1, o2, o3),
+        (
+          u1,
+          v1,
+          ys,
+          m1,
+          eq1,
+          (
+            u2,
+            v2,
+            y,
+            m2,
+            eq2,
+            (
+              pair,
+              (
+                u3,
+                v3,
+                i,
+                m3,
+                eq3,
+                (
+                  text,
+                  (u4, v4, t4, m4, eq4, (a1, a2, a3), (b1, b2, b3)),
+                  made_name,
+                ),
+                (u5, v5, t5, m5, eq5, (c1, c2, c3), l5),
+              ),
+              made_field,
+            ),
+            l2,
+          ),
+          l1,
+        ),
+      ),
+      same,
+    ),
+    made,
+  ) rest =
       rw (eq, o1, eq1, eq2, eq3, eq4, a1, b1, eq5, c1, o2, a2) c2
 
   form_other : Form (Inner (suc n)) (choose (sees_three k.OpenParenthesis k.Name k.Becomes)
@@ -325,8 +441,8 @@ lacks_any : (rule : Rule Init) → LacksTwo (g.any_init rule) k.Number k.OpenPar
 lacks_any rule = lacks_or k.Number k.OpenParenthesis
     (lacks_first k.Number k.OpenParenthesis (starts_elements rule) refl)
     (lacks_or k.Number k.OpenParenthesis (lacks_first k.Number k.OpenParenthesis
-        (starts_structure rule) refl) (lacks_bind k.Number k.OpenParenthesis number_expression
-        (λ x. avoids_give k.OpenParenthesis (init.Value x))))
+    (starts_structure rule) refl) (lacks_bind k.Number k.OpenParenthesis number_expression
+    (λ x. avoids_give k.OpenParenthesis (init.Value x))))
 
 lacks_within : (m : ℕ) → LacksTwo (g.init_within m) k.Number k.OpenParenthesis
 unfolding g.init_within

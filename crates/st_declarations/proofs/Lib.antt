@@ -1,3 +1,4 @@
+mod ListForms
 mod Nesting
 pub mod SpecForms
 pub mod InitForms

@@ -9,8 +9,6 @@ use Rattle.token_grammar.proofs.Forms.{Form, Inner}
 use Rattle.token_grammar.proofs.Same.{SubRule, SameRule, some_of, exact_as, exact_some_of, starts_some_of, sub_self, sub_bind, sub_then, sub_before, sub_or, sub_scoped, sub_node, sub_many, sub_some_of}
 use Rattle.st_tree.specs.declared.declaration.Spec.{Spec}
 use Rattle.st_tree.specs.declared.declaration.Init.{Init}
-use Rattle.st_tree.specs.declared.declaration.Item.{Item}
-use Rattle.st_tree.specs.declared.declaration.FieldInit.{FieldInit}
 use Rattle.st_expr.proofs.Lists.{Here}
 use Rattle.st_declarations.specs.Trees.{make_array, make_elements, make_structure, make_repeated, make_field_init}
 use Rattle.st_declarations.specs.Grammar as g
@@ -21,7 +19,7 @@ module _ {A : Type 0} (parser : ℕ → Parser A) (rule : ℕ → Rule A) (first
     (level : (m : ℕ) → IsLevel (rule m))
     (some : (m d : ℕ) → Some_ (rule (suc m)) d)
     (step : (n m : ℕ) → n < m → Exact (Inner n) (parser n) (rule m) (sees_any ends)
-        → Form (Inner (suc n)) (parser (suc n)) (rule (suc m)) firsts ends)
+    → Form (Inner (suc n)) (parser (suc n)) (rule (suc m)) firsts ends)
     (sub : (n m : ℕ) → n ≤ m → SubRule (rule n) (rule m)) where
   exact_within : (n m : ℕ) → n < m → Exact (Inner n) (parser n) (rule m) (sees_any ends)
   exact_within n zero lt = absurd (omega (arith, lt))
@@ -65,12 +63,16 @@ spec_sub (suc n) zero le = absurd (omega (arith, le))
 spec_sub (suc n) (suc m) le =
     let inner = spec_sub n m (omega (arith, le)) in
     let array = sub_node make_array (sub_scoped
-        (sub_then (λ _. sub_then (λ rs. sub_then (λ _. sub_before inner))))) in
+    (sub_then (λ _. sub_then (λ rs. sub_then (λ _. sub_before inner))))) in
     let within : SubRule (g.any_spec (g.spec_within n)) (g.any_spec (g.spec_within m)) =
-        sub_or array sub_self in
+    sub_or array sub_self in
     record { to = λ d w x e l. within.to d w x e l }
 
 -- ---- initial values
+
+sub_commas : {A : Type 0} {one other : Rule A} → SubRule one other
+    → SubRule (g.commas one) (g.commas other)
+sub_commas h = sub_bind h (λ x. sub_many (λ found. sub_then (λ _. sub_before h)) (x ∷ []))
 
 module _ {inner outer : Rule Init} (h : SubRule inner outer) where
   repeated_item : SubRule (g.repeated_item inner) (g.repeated_item outer)
@@ -80,27 +82,15 @@ module _ {inner outer : Rule Init} (h : SubRule inner outer) where
   one_item : SubRule (g.one_item inner) (g.one_item outer)
   one_item = sub_or repeated_item (sub_before h)
 
-  more_items : (xs : List Item) → SubRule (g.more_items inner xs) (g.more_items outer xs)
-  more_items xs = sub_then (λ _. sub_before one_item)
-
-  item_list : SubRule (g.item_list inner) (g.item_list outer)
-  item_list = sub_bind one_item (λ x. sub_many more_items (x ∷ []))
-
   elements : SubRule (g.elements inner) (g.elements outer)
-  elements = sub_node make_elements (sub_scoped (sub_then (λ _. sub_before item_list)))
+  elements = sub_node make_elements (sub_scoped (sub_then (λ _. sub_before (sub_commas one_item))))
 
   field_init : SubRule (g.field_init inner) (g.field_init outer)
   field_init = sub_node make_field_init (sub_then (λ i. sub_then (λ _. sub_before h)))
 
-  more_field_inits : (xs : List FieldInit) → SubRule (g.more_field_inits inner xs)
-      (g.more_field_inits outer xs)
-  more_field_inits xs = sub_then (λ _. sub_before field_init)
-
-  field_list : SubRule (g.field_list inner) (g.field_list outer)
-  field_list = sub_bind field_init (λ x. sub_many more_field_inits (x ∷ []))
-
   structure : SubRule (g.structure inner) (g.structure outer)
-  structure = sub_node make_structure (sub_scoped (sub_then (λ _. sub_before field_list)))
+  structure = sub_node make_structure (sub_scoped
+      (sub_then (λ _. sub_before (sub_commas field_init))))
 
   any_init : SubRule (g.any_init inner) (g.any_init outer)
   any_init = sub_or elements (sub_or structure sub_self)

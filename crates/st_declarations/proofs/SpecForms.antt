@@ -18,7 +18,8 @@ use Rattle.st_declarations.specs.steps.Parse as p
 use Rattle.st_expr.proofs.NameLists.{exact_names}
 use Rattle.st_expr.proofs.Leaves.{form_identifier, level_identifier}
 use Rattle.st_expr.proofs.Exactness.{firsts, goes_on, form_expression, level_expression}
-use Rattle.st_expr.proofs.Lists.{Here, stays, into, inward, form_fewer, exact_commas, exact_last}
+use Rattle.st_expr.proofs.Lists.{Here, stays, into, inward, form_fewer, exact_last}
+use Rattle.st_declarations.proofs.ListForms.{exact_commas_of}
 use Rattle.st_declarations.proofs.Nesting.{form_all, spec_sub}
 
 -- ---- names of types
@@ -125,9 +126,8 @@ form_enumeration {V} = form_node make_enumeration
     (form_scoped (form_take {W = Here} k.OpenParenthesis 1 1
     (λ _. exact_last (k.Comma ∷ []) k.CloseParenthesis (λ ns. ns) (exact_names 257) refl) (into V)))
 
-exact_range_list : Exact Here p.range_list g.range_list (sees_any (k.Comma ∷ goes_on))
-unfolding p.range_list p.more_ranges
-exact_range_list = exact_commas 257 goes_on form_range.exact refl level_range
+exact_range_list : Exact Here (p.commas p.range) (g.commas g.range) (sees_any (k.Comma ∷ goes_on))
+exact_range_list = exact_commas_of 257 goes_on form_range.exact refl level_range
 
 form_ranges : {V : ℕ → Type 0} → Form V p.ranges g.ranges (k.OpenBracket ∷ []) []
 unfolding p.ranges
@@ -154,9 +154,9 @@ module _ (n : ℕ) (inner : Parser Spec) (rule : Rule Spec)
   form_array = form_node make_array (form_scoped
       (form_take {W = Inner n} {es = spec_ends} k.Array 1 1
       (λ _. (form_then {W = Inner n} {es = spec_ends} (form_ranges {V = Inner n})
-          (λ rs. (form_take {W = Inner n} {es = spec_ends} k.Of 0 0
-          (λ _. bind_give (λ s. (rs, s)) h) (stays n)).exact)
-          (level_carries (Inner n) (level_scoped _))).exact) (inward n)))
+      (λ rs. (form_take {W = Inner n} {es = spec_ends} k.Of 0 0
+      (λ _. bind_give (λ s. (rs, s)) h) (stays n)).exact)
+      (level_carries (Inner n) (level_scoped _))).exact) (inward n)))
 
   form_any : Form (Inner (suc n)) (p.any_spec inner) (g.any_spec rule) spec_kinds spec_ends
   unfolding p.any_spec

@@ -40,6 +40,18 @@ use Rattle.st_tree.specs.declared.file.ProgramLine.{ProgramLine}
 use Rattle.st_expr.specs.Grammar.{word, opening, identifier, address, names, expression}
 use Rattle.st_declarations.specs.Trees.{make_elementary, make_range, make_type, make_enumeration, make_array, make_elements, make_structure, make_repeated, make_field_init, make_decl, make_section, make_globals, make_fields, make_struct, make_type_decl, make_types, make_parameter, make_task, make_line, tasks_of, make_resource, make_config}
 
+-- ---- lists
+
+-- { one }
+abbrev pub each : {A : Type 0} → Rule A → Rule (List A)
+each one = many (λ found. one >>= λ x. give (found ++ x ∷ [])) []
+
+-- one { "," one }
+abbrev pub commas : {A : Type 0} → Rule A → Rule (List A)
+commas one =
+    one >>= λ first. many (λ found. token k.Comma >>= λ _. one >>= λ x. give (found ++ x ∷ []))
+    (first ∷ [])
+
 -- ---- types
 
 abbrev pub elem_as : TokenKind → Elem → Rule TypeName
@@ -86,15 +98,9 @@ enumeration =
     node make_enumeration (scoped (opening k.OpenParenthesis >>= λ _. names >>= λ ns.
     token k.CloseParenthesis >>= λ _. give ns))
 
-abbrev pub more_ranges : List Range → Rule (List Range)
-more_ranges rs = token k.Comma >>= λ _. range >>= λ r. give (rs ++ r ∷ [])
-
-abbrev pub range_list : Rule (List Range)
-range_list = range >>= λ r. many more_ranges (r ∷ [])
-
 -- "[" range { "," range } "]"
 abbrev pub ranges : Rule (List Range)
-ranges = scoped (opening k.OpenBracket >>= λ _. range_list >>= λ rs. token k.CloseBracket >>= λ _.
+ranges = scoped (opening k.OpenBracket >>= λ _. commas range >>= λ rs. token k.CloseBracket >>= λ _.
     give rs)
 
 -- ARRAY "[" range { "," range } "]" OF spec, in which ARRAY counts in the depth up to the end
@@ -129,15 +135,9 @@ module _ (inner : Rule Init) where
   abbrev pub one_item : Rule Item
   one_item = repeated_item or (inner >>= λ x. give (item.One x))
 
-  abbrev pub more_items : List Item → Rule (List Item)
-  more_items xs = token k.Comma >>= λ _. one_item >>= λ x. give (xs ++ x ∷ [])
-
-  abbrev pub item_list : Rule (List Item)
-  item_list = one_item >>= λ x. many more_items (x ∷ [])
-
   -- "[" item { "," item } "]"
   abbrev pub elements : Rule Init
-  elements = node make_elements (scoped (opening k.OpenBracket >>= λ _. item_list >>= λ xs.
+  elements = node make_elements (scoped (opening k.OpenBracket >>= λ _. commas one_item >>= λ xs.
       token k.CloseBracket >>= λ _. give xs))
 
   -- name ":=" init
@@ -145,16 +145,10 @@ module _ (inner : Rule Init) where
   field_init = node make_field_init (identifier >>= λ i. token k.Becomes >>= λ _. inner >>= λ x.
       give (i, x))
 
-  abbrev pub more_field_inits : List FieldInit → Rule (List FieldInit)
-  more_field_inits xs = token k.Comma >>= λ _. field_init >>= λ x. give (xs ++ x ∷ [])
-
-  abbrev pub field_list : Rule (List FieldInit)
-  field_list = field_init >>= λ x. many more_field_inits (x ∷ [])
-
   -- "(" name ":=" init { "," name ":=" init } ")"
   abbrev pub structure : Rule Init
-  structure = node make_structure (scoped (opening k.OpenParenthesis >>= λ _. field_list >>= λ xs.
-      token k.CloseParenthesis >>= λ _. give xs))
+  structure = node make_structure (scoped (opening k.OpenParenthesis >>= λ _.
+      commas field_init >>= λ xs. token k.CloseParenthesis >>= λ _. give xs))
 
   -- init = expr | "[" item { "," item } "]" | "(" name ":=" init { "," name ":=" init } ")"
   abbrev pub any_init : Rule Init
@@ -190,13 +184,6 @@ abbrev pub decl : Rule Decl
 decl = node make_decl (names >>= λ ns. optional_address >>= λ a. token k.Colon >>= λ _.
     spec >>= λ s. optional_init >>= λ i. token k.Semicolon >>= λ _. give (ns, a, s, i))
 
-abbrev pub more_decls : List Decl → Rule (List Decl)
-more_decls ds = decl >>= λ x. give (ds ++ x ∷ [])
-
--- { decl }
-abbrev pub decls : Rule (List Decl)
-decls = many more_decls []
-
 -- keep = CONSTANT | RETAIN | NON_RETAIN
 abbrev pub keep_as : TokenKind → Keep → Rule (Option Keep)
 keep_as kind x = token kind >>= λ _. give (Some x)
@@ -214,33 +201,23 @@ abbrev pub section_word : Rule SectionKind
 section_word = section_as k.Var section_kind.Var
     or (section_as k.VarInput section_kind.Input or (section_as k.VarOutput section_kind.Output
     or (section_as k.VarInOut section_kind.InOut
-        or (section_as k.VarExternal section_kind.External
-        or section_as k.VarTemp section_kind.Temp))))
+    or (section_as k.VarExternal section_kind.External
+    or section_as k.VarTemp section_kind.Temp))))
 
 -- section = ( VAR | VAR_INPUT | VAR_OUTPUT | VAR_IN_OUT | VAR_EXTERNAL | VAR_TEMP ) [ keep ] { decl
 -- } END_VAR
 abbrev pub section : Rule Section
-section = node make_section (section_word >>= λ kind. keep >>= λ kp. decls >>= λ ds.
+section = node make_section (section_word >>= λ kind. keep >>= λ kp. each decl >>= λ ds.
     token k.EndVar >>= λ _. give (kind, kp, ds))
-
-abbrev pub more_sections : List Section → Rule (List Section)
-more_sections found = section >>= λ x. give (found ++ x ∷ [])
 
 -- { section }
 abbrev pub sections : Rule (List Section)
-sections = many more_sections []
+sections = each section
 
 -- globals = VAR_GLOBAL [ keep ] { decl } END_VAR
 abbrev pub globals : Rule Globals
-globals = node make_globals (token k.VarGlobal >>= λ _. keep >>= λ kp. decls >>= λ ds.
+globals = node make_globals (token k.VarGlobal >>= λ _. keep >>= λ kp. each decl >>= λ ds.
     token k.EndVar >>= λ _. give (kp, ds))
-
-abbrev pub more_globals : List Globals → Rule (List Globals)
-more_globals found = globals >>= λ x. give (found ++ x ∷ [])
-
--- { globals }
-abbrev pub globals_list : Rule (List Globals)
-globals_list = many more_globals []
 
 -- ---- types of the user
 
@@ -249,16 +226,9 @@ abbrev pub fields : Rule Fields
 fields = node make_fields (names >>= λ ns. token k.Colon >>= λ _. spec >>= λ s.
     optional_init >>= λ i. token k.Semicolon >>= λ _. give (ns, s, i))
 
-abbrev pub more_fields : List Fields → Rule (List Fields)
-more_fields found = fields >>= λ x. give (found ++ x ∷ [])
-
--- { names ":" spec [ ":=" init ] ";" }
-abbrev pub fields_list : Rule (List Fields)
-fields_list = many more_fields []
-
 -- struct = STRUCT { names ":" spec [ ":=" init ] ";" } END_STRUCT
 abbrev pub struct_shape : Rule Shape
-struct_shape = node make_struct (token k.Struct >>= λ _. fields_list >>= λ found.
+struct_shape = node make_struct (token k.Struct >>= λ _. each fields >>= λ found.
     token k.EndStruct >>= λ _. give found)
 
 abbrev pub shape : Rule Shape
@@ -269,16 +239,9 @@ abbrev pub type_decl : Rule TypeDecl
 type_decl = node make_type_decl (identifier >>= λ name. token k.Colon >>= λ _. shape >>= λ s.
     optional_init >>= λ i. token k.Semicolon >>= λ _. give (name, s, i))
 
-abbrev pub more_type_decls : List TypeDecl → Rule (List TypeDecl)
-more_type_decls found = type_decl >>= λ x. give (found ++ x ∷ [])
-
--- { name ":" ( spec | struct ) [ ":=" init ] ";" }
-abbrev pub type_decls : Rule (List TypeDecl)
-type_decls = many more_type_decls []
-
 -- types = TYPE { name ":" ( spec | struct ) [ ":=" init ] ";" } END_TYPE
 abbrev pub types : Rule Types
-types = node make_types (token k.Type >>= λ _. type_decls >>= λ found. token k.EndType >>= λ _.
+types = node make_types (token k.Type >>= λ _. each type_decl >>= λ found. token k.EndType >>= λ _.
     give found)
 
 -- ---- configurations
@@ -288,27 +251,15 @@ abbrev pub parameter : Rule Parameter
 parameter = node make_parameter (identifier >>= λ name. token k.Becomes >>= λ _. expression >>= λ x.
     give (name, x))
 
-abbrev pub more_parameters : List Parameter → Rule (List Parameter)
-more_parameters found = token k.Comma >>= λ _. parameter >>= λ x. give (found ++ x ∷ [])
-
-abbrev pub parameter_list : Rule (List Parameter)
-parameter_list = parameter >>= λ x. many more_parameters (x ∷ [])
-
 -- "(" name ":=" expr { "," name ":=" expr } ")"
 abbrev pub parameters : Rule (List Parameter)
-parameters = scoped (opening k.OpenParenthesis >>= λ _. parameter_list >>= λ found.
+parameters = scoped (opening k.OpenParenthesis >>= λ _. commas parameter >>= λ found.
     token k.CloseParenthesis >>= λ _. give found)
 
 -- TASK name "(" name ":=" expr { "," name ":=" expr } ")" ";"
 abbrev pub task : Rule Task
 task = node make_task (token k.Task >>= λ _. identifier >>= λ name. parameters >>= λ found.
     token k.Semicolon >>= λ _. give (name, found))
-
-abbrev pub more_tasks : List Task → Rule (List Task)
-more_tasks found = task >>= λ x. give (found ++ x ∷ [])
-
-abbrev pub task_list : Rule (List Task)
-task_list = many more_tasks []
 
 -- WITH name
 abbrev pub with_task : Rule (Option Identifier)
@@ -323,32 +274,20 @@ program_line = node make_line (token k.Program >>= λ _. identifier >>= λ name.
     optional_task >>= λ t. token k.Colon >>= λ _. identifier >>= λ program.
     token k.Semicolon >>= λ _. give (name, t, program))
 
-abbrev pub more_lines : List ProgramLine → Rule (List ProgramLine)
-more_lines found = program_line >>= λ x. give (found ++ x ∷ [])
-
-abbrev pub line_list : Rule (List ProgramLine)
-line_list = many more_lines []
-
 -- tasks = { TASK name "(" name ":=" expr { "," name ":=" expr } ")" ";" } { PROGRAM name [ WITH
 -- name ] ":" name ";" }
 abbrev pub tasks : Rule Tasks
-tasks = task_list >>= λ found. line_list >>= λ lines. give (tasks_of found lines)
+tasks = each task >>= λ found. each program_line >>= λ lines. give (tasks_of found lines)
 
 -- RESOURCE name ON name { globals } tasks END_RESOURCE
 abbrev pub resource : Rule Resource
 resource = node make_resource (token k.Resource >>= λ _. identifier >>= λ name. token k.On >>= λ _.
-    identifier >>= λ kind. globals_list >>= λ gs. tasks >>= λ ts. token k.EndResource >>= λ _.
+    identifier >>= λ kind. each globals >>= λ gs. tasks >>= λ ts. token k.EndResource >>= λ _.
     give (name, kind, gs, ts))
-
-abbrev pub more_resources : List Resource → Rule (List Resource)
-more_resources found = resource >>= λ x. give (found ++ x ∷ [])
-
-abbrev pub resources : Rule (List Resource)
-resources = many more_resources []
 
 -- config = CONFIGURATION name { globals } { RESOURCE name ON name { globals } tasks END_RESOURCE }
 -- tasks END_CONFIGURATION
 abbrev pub config : Rule Config
 config = node make_config (token k.Configuration >>= λ _. identifier >>= λ name.
-    globals_list >>= λ gs. resources >>= λ rs. tasks >>= λ ts. token k.EndConfiguration >>= λ _.
+    each globals >>= λ gs. each resource >>= λ rs. tasks >>= λ ts. token k.EndConfiguration >>= λ _.
     give (name, gs, rs, ts))

@@ -66,12 +66,22 @@ abbrev pub make_field_init : ℕ → ℕ → Identifier × Init → FieldInit
 make_field_init start end p = record { node = node_at start end; name = p.0; value = p.1 }
 
 abbrev pub make_decl : ℕ → ℕ → List Identifier × Option Address × Spec × Option Init → Decl
-make_decl start end (names, address, s, i) = record { node = node_at start end; names = names;
-    address = address; spec = s; init = i }
+make_decl start end (names, address, s, i) = record {
+  node = node_at start end;
+  names = names;
+  address = address;
+  spec = s;
+  init = i;
+}
 
 abbrev pub make_section : ℕ → ℕ → SectionKind × Option Keep × List Decl → Section
-make_section start end (kind, keep, decls) = record { node = node_at start end; kind = kind; keep =
-    keep; decls = decls }
+make_section start end (kind, keep, decls) = record {
+  node = node_at start end;
+  kind = kind;
+  keep =
+      keep;
+  decls = decls;
+}
 
 -- ---- files
 
@@ -79,15 +89,23 @@ abbrev pub make_globals : ℕ → ℕ → Option Keep × List Decl → Globals
 make_globals start end p = record { node = node_at start end; keep = p.0; decls = p.1 }
 
 abbrev pub make_fields : ℕ → ℕ → List Identifier × Spec × Option Init → Fields
-make_fields start end (names, s, i) = record { node = node_at start end; names = names; spec = s;
-    init = i }
+make_fields start end (names, s, i) = record {
+  node = node_at start end;
+  names = names;
+  spec = s;
+  init = i;
+}
 
 abbrev pub make_struct : ℕ → ℕ → List Fields → Shape
 make_struct start end fields = shape.Structure (node_at start end) fields
 
 abbrev pub make_type_decl : ℕ → ℕ → Identifier × Shape × Option Init → TypeDecl
-make_type_decl start end (name, s, i) = record { node = node_at start end; name = name; shape = s;
-    init = i }
+make_type_decl start end (name, s, i) = record {
+  node = node_at start end;
+  name = name;
+  shape = s;
+  init = i;
+}
 
 abbrev pub make_types : ℕ → ℕ → List TypeDecl → Types
 make_types start end decls = record { node = node_at start end; decls = decls }
@@ -99,8 +117,13 @@ abbrev pub make_task : ℕ → ℕ → Identifier × List Parameter → Task
 make_task start end p = record { node = node_at start end; name = p.0; parameters = p.1 }
 
 abbrev pub make_line : ℕ → ℕ → Identifier × Option Identifier × Identifier → ProgramLine
-make_line start end (name, task, program) = record { node = node_at start end; name = name; task =
-    task; program = program }
+make_line start end (name, task, program) = record {
+  node = node_at start end;
+  name = name;
+  task =
+      task;
+  program = program;
+}
 
 abbrev pub tasks_of : List Task → List ProgramLine → Tasks
 tasks_of tasks lines = record { tasks = tasks; lines = lines }
@@ -111,5 +134,10 @@ make_resource start end (name, kind, globals, tasks) =
 
 abbrev pub make_config : ℕ → ℕ → Identifier × List Globals × List Resource × Tasks → Config
 make_config start end (name, globals, resources, tasks) =
-    record { node = node_at start end; name = name; globals = globals; resources = resources;
-    tasks = tasks }
+    record {
+      node = node_at start end;
+      name = name;
+      globals = globals;
+      resources = resources;
+      tasks = tasks;
+    }

@@ -1,4 +1,5 @@
-// What a declaration says of the type. A spec within an array's takes its parser as a parameter, so that each rule is proved by itself.
+// What a declaration says of the type. A spec within an array's takes its parser as a parameter, so
+// that each rule is proved by itself.
 
 ghost use Rattle.std.specs.Prelude.{◌≡◌, IfOk};
 ghost use Rattle.token_grammar.specs.Input.{Reads, view};
@@ -7,11 +8,11 @@ ghost use Rattle.st_declarations.specs.steps.Parse as spec;
 ghost use Rattle.st_declarations.specs.steps.Nests.{Nests};
 
 use crate::type_names::{enumeration, plain_spec, ranges};
-use tree_items::{Boxed, Items};
 use st_expr::node_at;
 use st_tree::{Node, Range, Spec};
 use std::alloc::{AllocError, Global};
 use token_grammar::{Cursor, ParseError, TokenKind};
+use tree_items::{Boxed, Items};
 
 /// What specs are read with.
 #[derive(Clone, Copy)]
@@ -39,7 +40,8 @@ impl<F: Fn(Global, &mut Cursor<'_>, usize) -> Result<Spec, ParseError>> Specs<F>
     #[tactic(auto, unfolding(crate::specs::steps::Parse::array))]
     fn array(&self, cursor: &mut Cursor<'_>) -> Result<Spec, ParseError>
         requires { Nests spec.spec_within self.now.nest (F.pre self.now.spec) (F.post self.now.spec) }
-        ensures { Reads (spec.array (spec.spec_within self.now.nest) (view cursor.old)) result (view cursor.new) }
+        ensures { Reads (spec.array (spec.spec_within self.now.nest) (view cursor.old)) result
+            (view cursor.new) }
     {
         let start = cursor.start();
         let depth = cursor.depth;
@@ -56,7 +58,8 @@ impl<F: Fn(Global, &mut Cursor<'_>, usize) -> Result<Spec, ParseError>> Specs<F>
     #[tactic(auto, unfolding(crate::specs::steps::Parse::any_spec))]
     fn any_spec(&self, cursor: &mut Cursor<'_>) -> Result<Spec, ParseError>
         requires { Nests spec.spec_within self.now.nest (F.pre self.now.spec) (F.post self.now.spec) }
-        ensures { Reads (spec.any_spec (spec.spec_within self.now.nest) (view cursor.old)) result (view cursor.new) }
+        ensures { Reads (spec.any_spec (spec.spec_within self.now.nest) (view cursor.old)) result
+            (view cursor.new) }
     {
         if cursor.sees(TokenKind::Array) {
             self.array(cursor)

@@ -1,15 +1,16 @@
 // Configurations, resources and tasks.
 
 ghost use Rattle.std.specs.Prelude.{◌≡◌};
-ghost use Rattle.token_grammar.specs.Input.{Reads, ReadsTo, view};
+ghost use Rattle.token_grammar.specs.Input.{Reads, view};
 ghost use Rattle.st_declarations.specs.steps.Parse as spec;
 
-use crate::declarations::globals_list;
-use tree_items::Items;
+use crate::declarations::GlobalsReader;
+use crate::lists::{Reader, commas, each};
 use st_expr::{expression, identifier, node_at};
 use st_tree::{Config, Identifier, Parameter, ProgramLine, Resource, Task, Tasks};
 use std::alloc::Global;
 use token_grammar::{Cursor, ParseError, TokenKind};
+use tree_items::Items;
 
 /// `name ":=" expr`
 #[tactic(auto, unfolding(crate::specs::steps::Parse::parameter))]
@@ -27,34 +28,19 @@ fn parameter(alloc: Global, cursor: &mut Cursor<'_>) -> Result<Parameter, ParseE
     })
 }
 
-/// `"," name ":=" expr`
-#[tactic(auto, unfolding(crate::specs::steps::Parse::more_parameters))]
-fn more_parameters(
-    alloc: Global,
-    cursor: &mut Cursor<'_>,
-    found: &mut Items<Parameter>,
-) -> Result<(), ParseError>
-    ensures { ReadsTo (spec.more_parameters found.old (view cursor.old)) result found.new (view cursor.new) }
-{
-    cursor.take(TokenKind::Comma)?;
-    found.push(parameter(alloc, cursor)?)?;
-    Ok(())
-}
+/// Reads a parameter of a task.
+struct ParameterReader;
 
-/// `name ":=" expr { "," name ":=" expr }`
-#[tactic(auto, unfolding(crate::specs::steps::Parse::parameter_list))]
-fn parameter_list(alloc: Global, cursor: &mut Cursor<'_>) -> Result<Items<Parameter>, ParseError>
-    ensures { Reads (spec.parameter_list (view cursor.old)) result (view cursor.new) }
-{
-    let mut found = Items::new(alloc);
-    found.push(parameter(alloc, cursor)?)?;
-    for _turn in 0..cursor.rest.len() {
-        if !cursor.sees(TokenKind::Comma) {
-            return Ok(found);
-        }
-        more_parameters(alloc, cursor, &mut found)?;
+impl Reader<Parameter> for ParameterReader {
+    ghost use Rattle.st_declarations.specs.steps.Parse.{parameter};
+
+    ghost parser = { λ _. parameter };
+
+    ghost ready = { λ _. Unit {0} };
+
+    fn read(&self, alloc: Global, cursor: &mut Cursor<'_>) -> Result<Parameter, ParseError> {
+        parameter(alloc, cursor)
     }
-    Ok(found)
 }
 
 /// `"(" name ":=" expr { "," name ":=" expr } ")"`
@@ -64,7 +50,7 @@ fn parameters(alloc: Global, cursor: &mut Cursor<'_>) -> Result<Items<Parameter>
 {
     let depth = cursor.depth;
     cursor.enter(TokenKind::OpenParenthesis)?;
-    let found = parameter_list(alloc, cursor)?;
+    let found = commas(alloc, cursor, &ParameterReader)?;
     cursor.take(TokenKind::CloseParenthesis)?;
     cursor.depth = depth;
     Ok(found)
@@ -87,31 +73,19 @@ fn task(alloc: Global, cursor: &mut Cursor<'_>) -> Result<Task, ParseError>
     })
 }
 
-#[tactic(auto, unfolding(crate::specs::steps::Parse::more_tasks))]
-fn more_tasks(
-    alloc: Global,
-    cursor: &mut Cursor<'_>,
-    found: &mut Items<Task>,
-) -> Result<(), ParseError>
-    ensures { ReadsTo (spec.more_tasks found.old (view cursor.old)) result found.new (view cursor.new) }
-{
-    found.push(task(alloc, cursor)?)?;
-    Ok(())
-}
+/// Reads a task.
+struct TaskReader;
 
-/// `{ task }`
-#[tactic(auto, unfolding(crate::specs::steps::Parse::task_list))]
-fn task_list(alloc: Global, cursor: &mut Cursor<'_>) -> Result<Items<Task>, ParseError>
-    ensures { Reads (spec.task_list (view cursor.old)) result (view cursor.new) }
-{
-    let mut found = Items::new(alloc);
-    for _turn in 0..cursor.rest.len() {
-        if !cursor.sees(TokenKind::Task) {
-            return Ok(found);
-        }
-        more_tasks(alloc, cursor, &mut found)?;
+impl Reader<Task> for TaskReader {
+    ghost use Rattle.st_declarations.specs.steps.Parse.{task};
+
+    ghost parser = { λ _. task };
+
+    ghost ready = { λ _. Unit {0} };
+
+    fn read(&self, alloc: Global, cursor: &mut Cursor<'_>) -> Result<Task, ParseError> {
+        task(alloc, cursor)
     }
-    Ok(found)
 }
 
 /// `WITH name`
@@ -155,31 +129,19 @@ fn program_line(alloc: Global, cursor: &mut Cursor<'_>) -> Result<ProgramLine, P
     })
 }
 
-#[tactic(auto, unfolding(crate::specs::steps::Parse::more_lines))]
-fn more_lines(
-    alloc: Global,
-    cursor: &mut Cursor<'_>,
-    found: &mut Items<ProgramLine>,
-) -> Result<(), ParseError>
-    ensures { ReadsTo (spec.more_lines found.old (view cursor.old)) result found.new (view cursor.new) }
-{
-    found.push(program_line(alloc, cursor)?)?;
-    Ok(())
-}
+/// Reads a program line.
+struct ProgramLineReader;
 
-/// `{ program_line }`
-#[tactic(auto, unfolding(crate::specs::steps::Parse::line_list))]
-fn line_list(alloc: Global, cursor: &mut Cursor<'_>) -> Result<Items<ProgramLine>, ParseError>
-    ensures { Reads (spec.line_list (view cursor.old)) result (view cursor.new) }
-{
-    let mut found = Items::new(alloc);
-    for _turn in 0..cursor.rest.len() {
-        if !cursor.sees(TokenKind::Program) {
-            return Ok(found);
-        }
-        more_lines(alloc, cursor, &mut found)?;
+impl Reader<ProgramLine> for ProgramLineReader {
+    ghost use Rattle.st_declarations.specs.steps.Parse.{program_line};
+
+    ghost parser = { λ _. program_line };
+
+    ghost ready = { λ _. Unit {0} };
+
+    fn read(&self, alloc: Global, cursor: &mut Cursor<'_>) -> Result<ProgramLine, ParseError> {
+        program_line(alloc, cursor)
     }
-    Ok(found)
 }
 
 /// `{ task } { program_line }`
@@ -187,8 +149,8 @@ fn line_list(alloc: Global, cursor: &mut Cursor<'_>) -> Result<Items<ProgramLine
 fn tasks(alloc: Global, cursor: &mut Cursor<'_>) -> Result<Tasks, ParseError>
     ensures { Reads (spec.tasks (view cursor.old)) result (view cursor.new) }
 {
-    let tasks = task_list(alloc, cursor)?;
-    let lines = line_list(alloc, cursor)?;
+    let tasks = each(alloc, cursor, TokenKind::Task, &TaskReader)?;
+    let lines = each(alloc, cursor, TokenKind::Program, &ProgramLineReader)?;
     Ok(Tasks { tasks, lines })
 }
 
@@ -202,7 +164,7 @@ fn resource(alloc: Global, cursor: &mut Cursor<'_>) -> Result<Resource, ParseErr
     let name = identifier(alloc, cursor)?;
     cursor.take(TokenKind::On)?;
     let kind = identifier(alloc, cursor)?;
-    let globals = globals_list(alloc, cursor)?;
+    let globals = each(alloc, cursor, TokenKind::VarGlobal, &GlobalsReader)?;
     let tasks = tasks(alloc, cursor)?;
     cursor.take(TokenKind::EndResource)?;
     Ok(Resource {
@@ -214,31 +176,19 @@ fn resource(alloc: Global, cursor: &mut Cursor<'_>) -> Result<Resource, ParseErr
     })
 }
 
-#[tactic(auto, unfolding(crate::specs::steps::Parse::more_resources))]
-fn more_resources(
-    alloc: Global,
-    cursor: &mut Cursor<'_>,
-    found: &mut Items<Resource>,
-) -> Result<(), ParseError>
-    ensures { ReadsTo (spec.more_resources found.old (view cursor.old)) result found.new (view cursor.new) }
-{
-    found.push(resource(alloc, cursor)?)?;
-    Ok(())
-}
+/// Reads a resource.
+struct ResourceReader;
 
-/// `{ resource }`
-#[tactic(auto, unfolding(crate::specs::steps::Parse::resources))]
-fn resources(alloc: Global, cursor: &mut Cursor<'_>) -> Result<Items<Resource>, ParseError>
-    ensures { Reads (spec.resources (view cursor.old)) result (view cursor.new) }
-{
-    let mut found = Items::new(alloc);
-    for _turn in 0..cursor.rest.len() {
-        if !cursor.sees(TokenKind::Resource) {
-            return Ok(found);
-        }
-        more_resources(alloc, cursor, &mut found)?;
+impl Reader<Resource> for ResourceReader {
+    ghost use Rattle.st_declarations.specs.steps.Parse.{resource};
+
+    ghost parser = { λ _. resource };
+
+    ghost ready = { λ _. Unit {0} };
+
+    fn read(&self, alloc: Global, cursor: &mut Cursor<'_>) -> Result<Resource, ParseError> {
+        resource(alloc, cursor)
     }
-    Ok(found)
 }
 
 /// `CONFIGURATION name { globals } { resource } tasks END_CONFIGURATION`
@@ -249,8 +199,8 @@ pub fn config(alloc: Global, cursor: &mut Cursor<'_>) -> Result<Config, ParseErr
     let start = cursor.start();
     cursor.take(TokenKind::Configuration)?;
     let name = identifier(alloc, cursor)?;
-    let globals = globals_list(alloc, cursor)?;
-    let resources = resources(alloc, cursor)?;
+    let globals = each(alloc, cursor, TokenKind::VarGlobal, &GlobalsReader)?;
+    let resources = each(alloc, cursor, TokenKind::Resource, &ResourceReader)?;
     let tasks = tasks(alloc, cursor)?;
     cursor.take(TokenKind::EndConfiguration)?;
     Ok(Config {

@@ -1,16 +1,17 @@
 // Declarations of variables and their sections.
 
 ghost use Rattle.std.specs.Prelude.{◌≡◌};
-ghost use Rattle.token_grammar.specs.Input.{Reads, ReadsTo, view};
+ghost use Rattle.token_grammar.specs.Input.{Reads, view};
 ghost use Rattle.st_declarations.specs.steps.Parse as spec;
 
 use crate::array_specs::spec;
 use crate::initial_values::optional_init;
-use tree_items::Items;
+use crate::lists::{Reader, each, more};
 use st_expr::{address, name_list, node_at};
 use st_tree::{Address, Decl, Globals, Keep, Section, SectionKind};
 use std::alloc::Global;
 use token_grammar::{Cursor, ParseError, TokenKind};
+use tree_items::Items;
 
 /// `AT address`
 #[tactic(auto, unfolding(crate::specs::steps::Parse::located))]
@@ -54,31 +55,19 @@ fn decl(alloc: Global, cursor: &mut Cursor<'_>) -> Result<Decl, ParseError>
     })
 }
 
-#[tactic(auto, unfolding(crate::specs::steps::Parse::more_decls))]
-fn more_decls(
-    alloc: Global,
-    cursor: &mut Cursor<'_>,
-    found: &mut Items<Decl>,
-) -> Result<(), ParseError>
-    ensures { ReadsTo (spec.more_decls found.old (view cursor.old)) result found.new (view cursor.new) }
-{
-    found.push(decl(alloc, cursor)?)?;
-    Ok(())
-}
+/// Reads variables declared together.
+struct DeclReader;
 
-/// `{ decl }`
-#[tactic(auto, unfolding(crate::specs::steps::Parse::decls))]
-fn decls(alloc: Global, cursor: &mut Cursor<'_>) -> Result<Items<Decl>, ParseError>
-    ensures { Reads (spec.decls (view cursor.old)) result (view cursor.new) }
-{
-    let mut found = Items::new(alloc);
-    for _turn in 0..cursor.rest.len() {
-        if !cursor.sees(TokenKind::Name) {
-            return Ok(found);
-        }
-        more_decls(alloc, cursor, &mut found)?;
+impl Reader<Decl> for DeclReader {
+    ghost use Rattle.st_declarations.specs.steps.Parse.{decl};
+
+    ghost parser = { λ _. decl };
+
+    ghost ready = { λ _. Unit {0} };
+
+    fn read(&self, alloc: Global, cursor: &mut Cursor<'_>) -> Result<Decl, ParseError> {
+        decl(alloc, cursor)
     }
-    Ok(found)
 }
 
 #[tactic(auto, unfolding(crate::specs::steps::Parse::keep_as))]
@@ -157,7 +146,7 @@ fn section(alloc: Global, cursor: &mut Cursor<'_>) -> Result<Section, ParseError
     let start = cursor.start();
     let kind = section_word(cursor)?;
     let keep = keep(cursor)?;
-    let decls = decls(alloc, cursor)?;
+    let decls = each(alloc, cursor, TokenKind::Name, &DeclReader)?;
     cursor.take(TokenKind::EndVar)?;
     Ok(Section {
         node: node_at(start, cursor.last),
@@ -167,16 +156,19 @@ fn section(alloc: Global, cursor: &mut Cursor<'_>) -> Result<Section, ParseError
     })
 }
 
-#[tactic(auto, unfolding(crate::specs::steps::Parse::more_sections))]
-fn more_sections(
-    alloc: Global,
-    cursor: &mut Cursor<'_>,
-    found: &mut Items<Section>,
-) -> Result<(), ParseError>
-    ensures { ReadsTo (spec.more_sections found.old (view cursor.old)) result found.new (view cursor.new) }
-{
-    found.push(section(alloc, cursor)?)?;
-    Ok(())
+/// Reads a section.
+struct SectionReader;
+
+impl Reader<Section> for SectionReader {
+    ghost use Rattle.st_declarations.specs.steps.Parse.{section};
+
+    ghost parser = { λ _. section };
+
+    ghost ready = { λ _. Unit {0} };
+
+    fn read(&self, alloc: Global, cursor: &mut Cursor<'_>) -> Result<Section, ParseError> {
+        section(alloc, cursor)
+    }
 }
 
 /// `{ section }`
@@ -189,7 +181,7 @@ pub fn sections(alloc: Global, cursor: &mut Cursor<'_>) -> Result<Items<Section>
         if !sees_section(cursor) {
             return Ok(found);
         }
-        more_sections(alloc, cursor, &mut found)?;
+        more(alloc, cursor, &SectionReader, &mut found)?;
     }
     Ok(found)
 }
@@ -202,7 +194,7 @@ pub fn globals(alloc: Global, cursor: &mut Cursor<'_>) -> Result<Globals, ParseE
     let start = cursor.start();
     cursor.take(TokenKind::VarGlobal)?;
     let keep = keep(cursor)?;
-    let decls = decls(alloc, cursor)?;
+    let decls = each(alloc, cursor, TokenKind::Name, &DeclReader)?;
     cursor.take(TokenKind::EndVar)?;
     Ok(Globals {
         node: node_at(start, cursor.last),
@@ -211,29 +203,17 @@ pub fn globals(alloc: Global, cursor: &mut Cursor<'_>) -> Result<Globals, ParseE
     })
 }
 
-#[tactic(auto, unfolding(crate::specs::steps::Parse::more_globals))]
-fn more_globals(
-    alloc: Global,
-    cursor: &mut Cursor<'_>,
-    found: &mut Items<Globals>,
-) -> Result<(), ParseError>
-    ensures { ReadsTo (spec.more_globals found.old (view cursor.old)) result found.new (view cursor.new) }
-{
-    found.push(globals(alloc, cursor)?)?;
-    Ok(())
-}
+/// Reads a section of global variables.
+pub(crate) struct GlobalsReader;
 
-/// `{ globals }`
-#[tactic(auto, unfolding(crate::specs::steps::Parse::globals_list))]
-pub fn globals_list(alloc: Global, cursor: &mut Cursor<'_>) -> Result<Items<Globals>, ParseError>
-    ensures { Reads (spec.globals_list (view cursor.old)) result (view cursor.new) }
-{
-    let mut found = Items::new(alloc);
-    for _turn in 0..cursor.rest.len() {
-        if !cursor.sees(TokenKind::VarGlobal) {
-            return Ok(found);
-        }
-        more_globals(alloc, cursor, &mut found)?;
+impl Reader<Globals> for GlobalsReader {
+    ghost use Rattle.st_declarations.specs.steps.Parse.{globals};
+
+    ghost parser = { λ _. globals };
+
+    ghost ready = { λ _. Unit {0} };
+
+    fn read(&self, alloc: Global, cursor: &mut Cursor<'_>) -> Result<Globals, ParseError> {
+        globals(alloc, cursor)
     }
-    Ok(found)
 }

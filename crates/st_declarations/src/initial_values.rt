@@ -1,16 +1,18 @@
-// Initial values. A value within another's brackets takes its parser as a parameter, so that each rule is proved by itself.
+// Initial values. A value within another's brackets takes its parser as a parameter, so that each
+// rule is proved by itself.
 
 ghost use Rattle.std.specs.Prelude.{◌≡◌};
-ghost use Rattle.token_grammar.specs.Input.{Reads, ReadsTo, sees_two, sees_three, view};
+ghost use Rattle.token_grammar.specs.Input.{Reads, sees_two, sees_three, view};
 ghost use Rattle.token_grammar.specs.declared.token.TokenKind.TheVariants as kind;
 ghost use Rattle.st_declarations.specs.steps.Parse as spec;
 ghost use Rattle.st_declarations.specs.steps.Nests.{Nests};
 
-use tree_items::Items;
+use crate::lists::{Reader, commas};
 use st_expr::{expression, identifier, node_at, word};
 use st_tree::{FieldInit, Init, Item};
 use std::alloc::Global;
 use token_grammar::{Cursor, ParseError, TokenKind};
+use tree_items::Items;
 
 /// What initial values are read with.
 #[derive(Clone, Copy)]
@@ -50,7 +52,8 @@ impl<F: Fn(Global, &mut Cursor<'_>, usize) -> Result<Init, ParseError>> Values<F
     #[tactic(auto, unfolding(crate::specs::steps::Parse::repeated_item))]
     fn repeated_item(&self, cursor: &mut Cursor<'_>) -> Result<Item, ParseError>
         requires { Nests spec.init_within self.now.nest (F.pre self.now.init) (F.post self.now.init) }
-        ensures { Reads (spec.repeated_item (spec.init_within self.now.nest) (view cursor.old)) result (view cursor.new) }
+        ensures { Reads (spec.repeated_item (spec.init_within self.now.nest) (view cursor.old)) result
+            (view cursor.new) }
     {
         let start = cursor.start();
         let count = word(self.alloc, cursor, TokenKind::Number)?;
@@ -66,7 +69,8 @@ impl<F: Fn(Global, &mut Cursor<'_>, usize) -> Result<Init, ParseError>> Values<F
     #[tactic(auto, unfolding(crate::specs::steps::Parse::one_item))]
     fn one_item(&self, cursor: &mut Cursor<'_>) -> Result<Item, ParseError>
         requires { Nests spec.init_within self.now.nest (F.pre self.now.init) (F.post self.now.init) }
-        ensures { Reads (spec.one_item (spec.init_within self.now.nest) (view cursor.old)) result (view cursor.new) }
+        ensures { Reads (spec.one_item (spec.init_within self.now.nest) (view cursor.old)) result
+            (view cursor.new) }
     {
         if sees_repeated(cursor) {
             self.repeated_item(cursor)
@@ -75,44 +79,17 @@ impl<F: Fn(Global, &mut Cursor<'_>, usize) -> Result<Init, ParseError>> Values<F
         }
     }
 
-    /// `"," item`
-    #[tactic(auto, unfolding(crate::specs::steps::Parse::more_items))]
-    fn more_items(&self, cursor: &mut Cursor<'_>, found: &mut Items<Item>) -> Result<(), ParseError>
-        requires { Nests spec.init_within self.now.nest (F.pre self.now.init) (F.post self.now.init) }
-        ensures { ReadsTo (spec.more_items (spec.init_within self.now.nest) found.old (view cursor.old)) result found.new (view cursor.new) }
-    {
-        cursor.take(TokenKind::Comma)?;
-        found.push(self.one_item(cursor)?)?;
-        Ok(())
-    }
-
-    /// `item { "," item }`
-    #[tactic(auto, unfolding(crate::specs::steps::Parse::item_list))]
-    fn item_list(&self, cursor: &mut Cursor<'_>) -> Result<Items<Item>, ParseError>
-        requires { Nests spec.init_within self.now.nest (F.pre self.now.init) (F.post self.now.init) }
-        ensures { Reads (spec.item_list (spec.init_within self.now.nest) (view cursor.old)) result (view cursor.new) }
-    {
-        let mut found = Items::new(self.alloc);
-        found.push(self.one_item(cursor)?)?;
-        for _turn in 0..cursor.rest.len() {
-            if !cursor.sees(TokenKind::Comma) {
-                return Ok(found);
-            }
-            self.more_items(cursor, &mut found)?;
-        }
-        Ok(found)
-    }
-
     /// `"[" item { "," item } "]"`
     #[tactic(auto, unfolding(crate::specs::steps::Parse::elements))]
     fn elements(&self, cursor: &mut Cursor<'_>) -> Result<Init, ParseError>
         requires { Nests spec.init_within self.now.nest (F.pre self.now.init) (F.post self.now.init) }
-        ensures { Reads (spec.elements (spec.init_within self.now.nest) (view cursor.old)) result (view cursor.new) }
+        ensures { Reads (spec.elements (spec.init_within self.now.nest) (view cursor.old)) result
+            (view cursor.new) }
     {
         let start = cursor.start();
         let depth = cursor.depth;
         cursor.enter(TokenKind::OpenBracket)?;
-        let found = self.item_list(cursor)?;
+        let found: Items<Item> = commas(self.alloc, cursor, self)?;
         cursor.take(TokenKind::CloseBracket)?;
         cursor.depth = depth;
         Ok(Init::Array(node_at(start, cursor.last), found))
@@ -122,7 +99,8 @@ impl<F: Fn(Global, &mut Cursor<'_>, usize) -> Result<Init, ParseError>> Values<F
     #[tactic(auto, unfolding(crate::specs::steps::Parse::field_init))]
     fn field_init(&self, cursor: &mut Cursor<'_>) -> Result<FieldInit, ParseError>
         requires { Nests spec.init_within self.now.nest (F.pre self.now.init) (F.post self.now.init) }
-        ensures { Reads (spec.field_init (spec.init_within self.now.nest) (view cursor.old)) result (view cursor.new) }
+        ensures { Reads (spec.field_init (spec.init_within self.now.nest) (view cursor.old)) result
+            (view cursor.new) }
     {
         let start = cursor.start();
         let name = identifier(self.alloc, cursor)?;
@@ -135,48 +113,17 @@ impl<F: Fn(Global, &mut Cursor<'_>, usize) -> Result<Init, ParseError>> Values<F
         })
     }
 
-    /// `"," name ":=" init`
-    #[tactic(auto, unfolding(crate::specs::steps::Parse::more_field_inits))]
-    fn more_field_inits(
-        &self,
-        cursor: &mut Cursor<'_>,
-        found: &mut Items<FieldInit>,
-    ) -> Result<(), ParseError>
-        requires { Nests spec.init_within self.now.nest (F.pre self.now.init) (F.post self.now.init) }
-        ensures { ReadsTo (spec.more_field_inits (spec.init_within self.now.nest) found.old (view cursor.old)) result found.new (view cursor.new) }
-    {
-        cursor.take(TokenKind::Comma)?;
-        found.push(self.field_init(cursor)?)?;
-        Ok(())
-    }
-
-    /// `name ":=" init { "," name ":=" init }`
-    #[tactic(auto, unfolding(crate::specs::steps::Parse::field_list))]
-    fn field_list(&self, cursor: &mut Cursor<'_>) -> Result<Items<FieldInit>, ParseError>
-        requires { Nests spec.init_within self.now.nest (F.pre self.now.init) (F.post self.now.init) }
-        ensures { Reads (spec.field_list (spec.init_within self.now.nest) (view cursor.old)) result (view cursor.new) }
-    {
-        let mut found = Items::new(self.alloc);
-        found.push(self.field_init(cursor)?)?;
-        for _turn in 0..cursor.rest.len() {
-            if !cursor.sees(TokenKind::Comma) {
-                return Ok(found);
-            }
-            self.more_field_inits(cursor, &mut found)?;
-        }
-        Ok(found)
-    }
-
     /// `"(" name ":=" init { "," name ":=" init } ")"`
     #[tactic(auto, unfolding(crate::specs::steps::Parse::structure))]
     fn structure(&self, cursor: &mut Cursor<'_>) -> Result<Init, ParseError>
         requires { Nests spec.init_within self.now.nest (F.pre self.now.init) (F.post self.now.init) }
-        ensures { Reads (spec.structure (spec.init_within self.now.nest) (view cursor.old)) result (view cursor.new) }
+        ensures { Reads (spec.structure (spec.init_within self.now.nest) (view cursor.old)) result
+            (view cursor.new) }
     {
         let start = cursor.start();
         let depth = cursor.depth;
         cursor.enter(TokenKind::OpenParenthesis)?;
-        let found = self.field_list(cursor)?;
+        let found: Items<FieldInit> = commas(self.alloc, cursor, self)?;
         cursor.take(TokenKind::CloseParenthesis)?;
         cursor.depth = depth;
         Ok(Init::Structure(node_at(start, cursor.last), found))
@@ -186,7 +133,8 @@ impl<F: Fn(Global, &mut Cursor<'_>, usize) -> Result<Init, ParseError>> Values<F
     #[tactic(auto, unfolding(crate::specs::steps::Parse::any_init))]
     fn any_init(&self, cursor: &mut Cursor<'_>) -> Result<Init, ParseError>
         requires { Nests spec.init_within self.now.nest (F.pre self.now.init) (F.post self.now.init) }
-        ensures { Reads (spec.any_init (spec.init_within self.now.nest) (view cursor.old)) result (view cursor.new) }
+        ensures { Reads (spec.any_init (spec.init_within self.now.nest) (view cursor.old)) result
+            (view cursor.new) }
     {
         if cursor.sees(TokenKind::OpenBracket) {
             self.elements(cursor)
@@ -195,6 +143,27 @@ impl<F: Fn(Global, &mut Cursor<'_>, usize) -> Result<Init, ParseError>> Values<F
         } else {
             Ok(Init::Value(expression(self.alloc, cursor)?))
         }
+    }
+}
+
+impl<F: Fn(Global, &mut Cursor<'_>, usize) -> Result<Init, ParseError>> Reader<Item> for Values<F> {
+    ghost parser = { λ v. spec.one_item (spec.init_within v.nest) };
+
+    ghost ready = { λ v. Nests spec.init_within v.nest (F.pre v.init) (F.post v.init) };
+
+    fn read(&self, _alloc: Global, cursor: &mut Cursor<'_>) -> Result<Item, ParseError> {
+        self.one_item(cursor)
+    }
+}
+
+impl<F: Fn(Global, &mut Cursor<'_>, usize) -> Result<Init, ParseError>> Reader<FieldInit>
+    for Values<F> {
+    ghost parser = { λ v. spec.field_init (spec.init_within v.nest) };
+
+    ghost ready = { λ v. Nests spec.init_within v.nest (F.pre v.init) (F.post v.init) };
+
+    fn read(&self, _alloc: Global, cursor: &mut Cursor<'_>) -> Result<FieldInit, ParseError> {
+        self.field_init(cursor)
     }
 }
 

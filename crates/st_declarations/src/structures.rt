@@ -1,12 +1,12 @@
 // Types that a user declares.
 
 ghost use Rattle.std.specs.Prelude.{◌≡◌};
-ghost use Rattle.token_grammar.specs.Input.{Reads, ReadsTo, view};
+ghost use Rattle.token_grammar.specs.Input.{Reads, view};
 ghost use Rattle.st_declarations.specs.steps.Parse as spec;
 
 use crate::array_specs::spec;
 use crate::initial_values::optional_init;
-use tree_items::Items;
+use crate::lists::{Reader, each};
 use st_expr::{identifier, name_list, node_at};
 use st_tree::{Fields, Shape, TypeDecl, Types};
 use std::alloc::Global;
@@ -31,31 +31,19 @@ fn fields(alloc: Global, cursor: &mut Cursor<'_>) -> Result<Fields, ParseError>
     })
 }
 
-#[tactic(auto, unfolding(crate::specs::steps::Parse::more_fields))]
-fn more_fields(
-    alloc: Global,
-    cursor: &mut Cursor<'_>,
-    found: &mut Items<Fields>,
-) -> Result<(), ParseError>
-    ensures { ReadsTo (spec.more_fields found.old (view cursor.old)) result found.new (view cursor.new) }
-{
-    found.push(fields(alloc, cursor)?)?;
-    Ok(())
-}
+/// Reads fields declared together.
+struct FieldsReader;
 
-/// `{ fields }`
-#[tactic(auto, unfolding(crate::specs::steps::Parse::fields_list))]
-fn fields_list(alloc: Global, cursor: &mut Cursor<'_>) -> Result<Items<Fields>, ParseError>
-    ensures { Reads (spec.fields_list (view cursor.old)) result (view cursor.new) }
-{
-    let mut found = Items::new(alloc);
-    for _turn in 0..cursor.rest.len() {
-        if !cursor.sees(TokenKind::Name) {
-            return Ok(found);
-        }
-        more_fields(alloc, cursor, &mut found)?;
+impl Reader<Fields> for FieldsReader {
+    ghost use Rattle.st_declarations.specs.steps.Parse.{fields};
+
+    ghost parser = { λ _. fields };
+
+    ghost ready = { λ _. Unit {0} };
+
+    fn read(&self, alloc: Global, cursor: &mut Cursor<'_>) -> Result<Fields, ParseError> {
+        fields(alloc, cursor)
     }
-    Ok(found)
 }
 
 /// `STRUCT { fields } END_STRUCT`
@@ -65,7 +53,7 @@ fn struct_shape(alloc: Global, cursor: &mut Cursor<'_>) -> Result<Shape, ParseEr
 {
     let start = cursor.start();
     cursor.take(TokenKind::Struct)?;
-    let found = fields_list(alloc, cursor)?;
+    let found = each(alloc, cursor, TokenKind::Name, &FieldsReader)?;
     cursor.take(TokenKind::EndStruct)?;
     Ok(Shape::Structure(node_at(start, cursor.last), found))
 }
@@ -101,31 +89,19 @@ fn type_decl(alloc: Global, cursor: &mut Cursor<'_>) -> Result<TypeDecl, ParseEr
     })
 }
 
-#[tactic(auto, unfolding(crate::specs::steps::Parse::more_type_decls))]
-fn more_type_decls(
-    alloc: Global,
-    cursor: &mut Cursor<'_>,
-    found: &mut Items<TypeDecl>,
-) -> Result<(), ParseError>
-    ensures { ReadsTo (spec.more_type_decls found.old (view cursor.old)) result found.new (view cursor.new) }
-{
-    found.push(type_decl(alloc, cursor)?)?;
-    Ok(())
-}
+/// Reads the declaration of a type.
+struct TypeDeclReader;
 
-/// `{ name ":" shape [ ":=" init ] ";" }`
-#[tactic(auto, unfolding(crate::specs::steps::Parse::type_decls))]
-fn type_decls(alloc: Global, cursor: &mut Cursor<'_>) -> Result<Items<TypeDecl>, ParseError>
-    ensures { Reads (spec.type_decls (view cursor.old)) result (view cursor.new) }
-{
-    let mut found = Items::new(alloc);
-    for _turn in 0..cursor.rest.len() {
-        if !cursor.sees(TokenKind::Name) {
-            return Ok(found);
-        }
-        more_type_decls(alloc, cursor, &mut found)?;
+impl Reader<TypeDecl> for TypeDeclReader {
+    ghost use Rattle.st_declarations.specs.steps.Parse.{type_decl};
+
+    ghost parser = { λ _. type_decl };
+
+    ghost ready = { λ _. Unit {0} };
+
+    fn read(&self, alloc: Global, cursor: &mut Cursor<'_>) -> Result<TypeDecl, ParseError> {
+        type_decl(alloc, cursor)
     }
-    Ok(found)
 }
 
 /// `TYPE { name ":" shape [ ":=" init ] ";" } END_TYPE`
@@ -135,7 +111,7 @@ pub fn types(alloc: Global, cursor: &mut Cursor<'_>) -> Result<Types, ParseError
 {
     let start = cursor.start();
     cursor.take(TokenKind::Type)?;
-    let decls = type_decls(alloc, cursor)?;
+    let decls = each(alloc, cursor, TokenKind::Name, &TypeDeclReader)?;
     cursor.take(TokenKind::EndType)?;
     Ok(Types {
         node: node_at(start, cursor.last),

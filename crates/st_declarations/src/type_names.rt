@@ -1,15 +1,16 @@
 // Names of types, lists of names, and ranges.
 
 ghost use Rattle.std.specs.Prelude.{◌≡◌};
-ghost use Rattle.token_grammar.specs.Input.{Reads, ReadsTo, view};
+ghost use Rattle.token_grammar.specs.Input.{Reads, view};
 ghost use Rattle.st_declarations.specs.steps.Parse as spec;
 
+use crate::lists::{Reader, commas};
 use iec_tables::elem::Elem;
-use tree_items::Items;
 use st_expr::{expression, identifier, name_list, node_at};
 use st_tree::{Range, Spec, TypeName};
 use std::alloc::Global;
 use token_grammar::{Cursor, ParseError, TokenKind};
+use tree_items::Items;
 
 /// The name of an elementary type.
 #[tactic(auto, unfolding(crate::specs::steps::Parse::elem_as))]
@@ -153,34 +154,19 @@ pub fn enumeration(alloc: Global, cursor: &mut Cursor<'_>) -> Result<Spec, Parse
     Ok(Spec::Enumeration(node_at(start, cursor.last), found))
 }
 
-/// `"," range`
-#[tactic(auto, unfolding(crate::specs::steps::Parse::more_ranges))]
-fn more_ranges(
-    alloc: Global,
-    cursor: &mut Cursor<'_>,
-    found: &mut Items<Range>,
-) -> Result<(), ParseError>
-    ensures { ReadsTo (spec.more_ranges found.old (view cursor.old)) result found.new (view cursor.new) }
-{
-    cursor.take(TokenKind::Comma)?;
-    found.push(range(alloc, cursor)?)?;
-    Ok(())
-}
+/// Reads a range.
+struct RangeReader;
 
-/// `range { "," range }`
-#[tactic(auto, unfolding(crate::specs::steps::Parse::range_list))]
-fn range_list(alloc: Global, cursor: &mut Cursor<'_>) -> Result<Items<Range>, ParseError>
-    ensures { Reads (spec.range_list (view cursor.old)) result (view cursor.new) }
-{
-    let mut found = Items::new(alloc);
-    found.push(range(alloc, cursor)?)?;
-    for _turn in 0..cursor.rest.len() {
-        if !cursor.sees(TokenKind::Comma) {
-            return Ok(found);
-        }
-        more_ranges(alloc, cursor, &mut found)?;
+impl Reader<Range> for RangeReader {
+    ghost use Rattle.st_declarations.specs.steps.Parse.{range};
+
+    ghost parser = { λ _. range };
+
+    ghost ready = { λ _. Unit {0} };
+
+    fn read(&self, alloc: Global, cursor: &mut Cursor<'_>) -> Result<Range, ParseError> {
+        range(alloc, cursor)
     }
-    Ok(found)
 }
 
 /// `"[" range { "," range } "]"`
@@ -190,7 +176,7 @@ pub fn ranges(alloc: Global, cursor: &mut Cursor<'_>) -> Result<Items<Range>, Pa
 {
     let depth = cursor.depth;
     cursor.enter(TokenKind::OpenBracket)?;
-    let found = range_list(alloc, cursor)?;
+    let found = commas(alloc, cursor, &RangeReader)?;
     cursor.take(TokenKind::CloseBracket)?;
     cursor.depth = depth;
     Ok(found)

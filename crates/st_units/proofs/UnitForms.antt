@@ -43,15 +43,18 @@ body_firsts = k.InitialStep ∷ statement_kinds
 abbrev body_ends : List TokenKind
 body_ends = k.InitialStep ∷ (chart_kinds ++ statement_kinds)
 
-form_chart : Form Here p.chart_body (sfc >>= λ chart. give (body_kind.Chart chart)) (k.InitialStep ∷ []) chart_kinds
+form_chart : Form Here p.chart_body (sfc >>= λ chart. give (body_kind.Chart chart))
+    (k.InitialStep ∷ []) chart_kinds
 unfolding p.chart_body
 form_chart = form_as body_kind.Chart form_sfc
 
-exact_list : Exact Here p.statements_body (statements >>= λ found. give (body_kind.Statements found)) (sees_any statement_kinds)
+exact_list : Exact Here p.statements_body (statements >>= λ found.
+    give (body_kind.Statements found)) (sees_any statement_kinds)
 unfolding p.statements_body
 exact_list = bind_give body_kind.Statements exact_statements
 
-loose_list : Loose (statements >>= λ found. give (body_kind.Statements found)) (statement_kinds ++ [])
+loose_list : Loose (statements >>= λ found. give (body_kind.Statements found))
+    (statement_kinds ++ [])
 loose_list = loose_bind loose_statements (λ found. loose_give (body_kind.Statements found))
 
 avoids_loose : {A : Type 0} {L : Rule A} {ks : List TokenKind} (kind : TokenKind) → Loose L ks
@@ -79,8 +82,9 @@ level_body = level_or (level_bind level_sfc (λ chart. level_give (body_kind.Cha
 exact_inside : {B : Type 0} (end : TokenKind) (make : List Section → Body → B)
     → disjoint (end ∷ []) body_ends ≡ true → disjoint (body_firsts ++ end ∷ []) section_kinds ≡ true
     → Exact Here
-        (λ c. and_then (parse.sections c) (λ ss. λ c. and_then (p.body c) (λ b. λ c. and_then (take end c) (λ _. pure (make ss b)))))
-        (rules.sections >>= λ ss. g.body >>= λ b. token end >>= λ _. give (make ss b)) (sees_any [])
+    (λ c. and_then (parse.sections c) (λ ss. λ c. and_then (p.body c)
+    (λ b. λ c. and_then (take end c) (λ _. pure (make ss b)))))
+    (rules.sections >>= λ ss. g.body >>= λ b. token end >>= λ _. give (make ss b)) (sees_any [])
 exact_inside end make free apart = bind_starts {W = Here} section_kinds exact_sections
     (λ ss. exact_last body_ends end (make ss) exact_body free) (level_carries Here level_sections)
     (λ ss. loose_then loose_body (λ b. starts_last end (make ss b))) apart
@@ -111,13 +115,15 @@ form_unit_as : (begin end : TokenKind) (kind : UnitKind)
     → disjoint (end ∷ []) body_ends ≡ true → disjoint (body_firsts ++ end ∷ []) section_kinds ≡ true
     → Form Here (p.unit_as begin end kind) (g.unit_as begin end kind) (begin ∷ []) []
 unfolding p.unit_as
-form_unit_as begin end kind free apart = form_node make_unit (form_take {W = Here} {es = []} begin 0 0
+form_unit_as begin end kind free apart = form_node make_unit
+    (form_take {W = Here} {es = []} begin 0 0
     (λ _. (form_then {W = Here} {es = []} form_identifier
     (λ name. exact_inside end (λ ss b. (kind, name, ss, b)) free apart)
     (level_carries Here level_identifier)).exact) (stays 257))
 
 level_unit_as : (begin end : TokenKind) (kind : UnitKind) → IsLevel (g.unit_as begin end kind)
-level_unit_as begin end kind = level_node make_unit (level_then begin (λ _. level_bind level_identifier
+level_unit_as begin end kind = level_node make_unit
+    (level_then begin (λ _. level_bind level_identifier
     (λ name. level_inside end (λ ss b. (kind, name, ss, b)))))
 
 form_block : Form Here p.block g.block (k.FunctionBlock ∷ []) []
@@ -132,12 +138,14 @@ form_program = form_unit_as k.Program k.EndProgram unit_kind.Program refl refl
 
 abbrev other_rule : Rule FilePart
 other_rule = (rules.types >>= λ t. give (part.Types t))
-    or ((rules.globals >>= λ x. give (part.Globals x)) or (rules.config >>= λ c. give (part.Config c)))
+    or ((rules.globals >>= λ x. give (part.Globals x))
+    or (rules.config >>= λ c. give (part.Config c)))
 
 form_other_part : Form Here p.other_part other_rule (k.Type ∷ k.VarGlobal ∷ k.Configuration ∷ []) []
 unfolding p.other_part
 form_other_part = form_or k.Type (form_as part.Types form_types)
-    (form_or k.VarGlobal (form_as part.Globals form_globals) (form_as part.Config form_config) refl) refl
+    (form_or k.VarGlobal (form_as part.Globals form_globals)
+    (form_as part.Config form_config) refl) refl
 
 level_other_part : IsLevel other_rule
 level_other_part = level_or (level_bind level_types (λ t. level_give (part.Types t)))
@@ -170,5 +178,5 @@ sees_parts ts = or_is (sees_in k.Function ts) _ _ (or_is (sees_in k.FunctionBloc
 
 -- the parts of a file
 pub exact_parts : Exact Here p.parts g.file (sees_any part_kinds)
-unfolding p.parts p.more_parts
+unfolding p.parts parse.more
 exact_parts = exact_each sees_parts form_file_part refl level_file_part

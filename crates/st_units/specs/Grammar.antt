@@ -1,9 +1,9 @@
 -- The grammar of units and files. Source: the textual grammar of IEC 61131-3:2013, narrowed to this
 -- profile. The code descends by a look at the next token.
-use Rattle.std.specs.Prelude.{List, [], ◌∷◌, ◌++◌}
+use Rattle.std.specs.Prelude.{List}
 use Rattle.token_grammar.specs.declared.token.TokenKind.{TokenKind}
 use Rattle.token_grammar.specs.declared.token.TokenKind.TheVariants as k
-use Rattle.token_grammar.specs.Grammar.{Rule, ◌>>=◌, ◌or◌, give, token, node, many}
+use Rattle.token_grammar.specs.Grammar.{Rule, ◌>>=◌, ◌or◌, give, token, node}
 use Rattle.st_tree.specs.declared.file.Body.{Body}
 use Rattle.st_tree.specs.declared.file.Body.TheVariants as body_kind
 use Rattle.st_tree.specs.declared.file.Unit.{Unit as UnitTree}
@@ -14,7 +14,7 @@ use Rattle.st_tree.specs.declared.file.FilePart.TheVariants as part
 use Rattle.st_expr.specs.Grammar.{identifier}
 use Rattle.st_statements.specs.Grammar.{statements}
 use Rattle.sfc_text.specs.Grammar.{sfc}
-use Rattle.st_declarations.specs.Grammar.{typename, sections, types, globals, config}
+use Rattle.st_declarations.specs.Grammar.{each, typename, sections, types, globals, config}
 use Rattle.st_units.specs.Trees.{make_unit}
 
 -- body = sfc | statements
@@ -49,9 +49,6 @@ file_part = (function >>= λ u. give (part.Unit u))
     or ((globals >>= λ g. give (part.Globals g))
     or (config >>= λ c. give (part.Config c))))))
 
-abbrev pub more_parts : List FilePart → Rule (List FilePart)
-more_parts found = file_part >>= λ x. give (found ++ x ∷ [])
-
 -- file = { function | block | program | types | globals | config }
 abbrev pub file : Rule (List FilePart)
-file = many more_parts []
+file = each file_part

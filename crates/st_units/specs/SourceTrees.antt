@@ -1,5 +1,7 @@
--- The tree of a text: the parts that its tokens spell, with their nodes numbered, its comments, and the
--- places of its line feeds. Source: this profile. The code numbers the nodes of the parts first, and then
+-- The tree of a text: the parts that its tokens spell, with their nodes numbered, its comments, and
+-- the
+-- places of its line feeds. Source: this profile. The code numbers the nodes of the parts first,
+-- and then
 -- the comments.
 use Rattle.std.specs.Prelude.{◌≡◌, ◌⊎◌, ℕ, suc, ◌+◌, ◌≤◌, Bool, List, [], ◌∷◌, map, length, Result, Ok, Err}
 use Rattle.std.specs.List.{filter}
@@ -48,14 +50,16 @@ starts_of tokens = map (λ t. t.start) tokens
 abbrev pub places_of : List FilePart → List ℕ
 places_of parts = map (λ node. node.start) (nodes_of_parts parts)
 
--- The tree of these parts of a text with these comments. A node's number counts the nodes before it and
--- the comments that start before it, a comment's the comments before it and the nodes that start before
+-- The tree of these parts of a text with these comments. A node's number counts the nodes before it
+-- and
+-- the comments that start before it, a comment's the comments before it and the nodes that start
+-- before
 -- it.
 abbrev pub tree_of : List ℕ → List Token → List FilePart → SourceTree
 tree_of text comments parts =
     file_of (numbered_parts (starts_of comments) parts)
-        (comments_from (places_of parts) 0 text comments)
-        (feeds_from 0 text)
+    (comments_from (places_of parts) 0 text comments)
+    (feeds_from 0 text)
 
 -- The tokens of the text spell these parts, and this is their tree.
 pub record IsSourceTree (text : List ℕ) (tokens : List Token) (tree : SourceTree) : Type 0 where
@@ -65,7 +69,8 @@ pub record IsSourceTree (text : List ℕ) (tokens : List Token) (tree : SourceTr
 
 -- ---- what a text is parsed to
 
--- The text is cut into tokens that spell no file, or it isn't cut. A parse step is counted for each token,
+-- The text is cut into tokens that spell no file, or it isn't cut. A parse step is counted for each
+-- token,
 -- and for no more of them where there is no memory.
 abbrev pub IsRefused : List ℕ → (before now : ℕ) → ParseFault → Type 0
 IsRefused text before now (At code at) =

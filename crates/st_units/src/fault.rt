@@ -11,11 +11,14 @@ use station_ports::outside::NoMemory;
 use std::alloc::AllocError;
 use token_grammar::{Cursor, ParseError};
 
-/// Why nothing was read: a fault and its place in bytes, a fault for which the text isn't cut into tokens, or no memory.
+/// Why nothing was read: a fault and its place in bytes, a fault for which the text isn't cut into
+/// tokens, or no memory.
 #[derive(Clone, Copy, Debug, PartialEq, Eq)]
 pub enum ParseFault {
-    /// Grammar at the first token with which the tokens no longer begin what is read, or at the text's length where none follows;
-    /// TooDeep at the first token whose depth is above 256, where the tokens up to and with it begin what is read.
+    /// Grammar at the first token with which the tokens no longer begin what is read, or at the
+    /// text's length where none follows;
+    /// TooDeep at the first token whose depth is above 256, where the tokens up to and with it
+    /// begin what is read.
     At { code: FaultCode, at: usize },
     /// The text isn't cut into tokens. Comes of whole texts alone.
     Lex(LexFault),

@@ -1,9 +1,10 @@
-// What is read of a list of tokens from one of them on: an expression, statements or a chart, or the place where the tokens stop being that.
+// What is read of a list of tokens from one of them on: an expression, statements or a chart, or
+// the place where the tokens stop being that.
 
 ghost use Rattle.std.specs.Prelude.{◌≡◌, ◌+◌, ◌≤◌, [], IfOk, length, drop};
 ghost use Rattle.std.specs.List.{filter};
 ghost use Rattle.token_grammar.specs.Grammar.{max_depth};
-ghost use Rattle.token_grammar.specs.Input.{Parser, Reads, view};
+ghost use Rattle.token_grammar.specs.Input.{view};
 ghost use Rattle.token_grammar.specs.Kept.{is_kept as keeps};
 ghost use Rattle.st_expr.specs.Grammar as expressions;
 ghost use Rattle.st_statements.specs.Grammar as lists;
@@ -15,6 +16,7 @@ ghost use Rattle.st_units.specs.steps.Found.{FindsFront, FrontFound, kept_behind
 
 use crate::fault::{ParseFault, fault_at};
 use sfc_text::sfc;
+use st_declarations::Reader;
 use st_statements::statement_list;
 use st_tree::{Expr, Sfc, Stmt};
 use std::alloc::{AllocError, Global};
@@ -22,9 +24,12 @@ use token_grammar::{Cursor, ParseError, Token, TokenKind, Tokens, drop_comments}
 use tree_items::{Boxed, Items};
 use tree_numbers::{Counting, Starts, number_expr, number_sfc, number_stmts};
 
-/// The expression that the tokens from the number `from` on begin with, and the number of the token behind it: of the next one that is neither
-/// a comment nor a pragma, or the number of tokens where none is left. The expression stands `outer` deep, at most 256. Its nodes are numbered
-/// from 0. Where the longest front that begins an expression spells none within the depth, the fault says why and where.
+/// The expression that the tokens from the number `from` on begin with, and the number of the token
+/// behind it: of the next one that is neither
+/// a comment nor a pragma, or the number of tokens where none is left. The expression stands
+/// `outer` deep, at most 256. Its nodes are numbered
+/// from 0. Where the longest front that begins an expression spells none within the depth, the
+/// fault says why and where.
 pub fn expression(
     alloc: Global,
     tokens: &Tokens<'_>,
@@ -33,10 +38,8 @@ pub fn expression(
 ) -> Result<(Expr, usize), ParseFault>
     requires from { from ≤ length tokens.now.list.items }
     requires outer { outer ≤ max_depth }
-    ensures {
-        spec.ParsesFront expressions.expression (numbered_expr []) outer
-            tokens.now.text.now tokens.now.list.items from result
-    }
+    ensures { spec.ParsesFront expressions.expression (numbered_expr []) outer
+        tokens.now.text.now tokens.now.list.items from result }
 {
     let (tree, behind) = expression_front(alloc, tokens, from, outer)?;
     let mut tree = tree.into_inner();
@@ -44,36 +47,32 @@ pub fn expression(
     Ok((tree, behind))
 }
 
-/// The statements that the tokens from the number `from` on begin with, and the number of the token behind them, as `expression` has it.
-/// Their nodes are numbered from 0. Where the longest front that begins statements spells none within the depth, the fault says why and where.
+/// The statements that the tokens from the number `from` on begin with, and the number of the token
+/// behind them, as `expression` has it.
+/// Their nodes are numbered from 0. Where the longest front that begins statements spells none
+/// within the depth, the fault says why and where.
 pub fn statements(
     alloc: Global,
     tokens: &Tokens<'_>,
     from: usize,
 ) -> Result<(Items<Stmt>, usize), ParseFault>
     requires { from ≤ length tokens.now.list.items }
-    ensures {
-        spec.ParsesFront lists.statements (numbered_stmts []) 0
-            tokens.now.text.now tokens.now.list.items from result
-    }
+    ensures { spec.ParsesFront lists.statements (numbered_stmts []) 0
+        tokens.now.text.now tokens.now.list.items from result }
 {
     let (mut found, behind) = statements_front(alloc, tokens, from)?;
     number_stmts(&mut found, &mut fresh(alloc))?;
     Ok((found, behind))
 }
 
-/// The chart that the tokens from the number `from` on begin with, and the number of the token behind it, as `expression` has it. Its nodes
-/// are numbered from 0. Where the longest front that begins a chart spells none within the depth, the fault says why and where.
-pub fn sfc_body(
-    alloc: Global,
-    tokens: &Tokens<'_>,
-    from: usize,
-) -> Result<(Sfc, usize), ParseFault>
+/// The chart that the tokens from the number `from` on begin with, and the number of the token
+/// behind it, as `expression` has it. Its nodes
+/// are numbered from 0. Where the longest front that begins a chart spells none within the depth,
+/// the fault says why and where.
+pub fn sfc_body(alloc: Global, tokens: &Tokens<'_>, from: usize) -> Result<(Sfc, usize), ParseFault>
     requires { from ≤ length tokens.now.list.items }
-    ensures {
-        spec.ParsesFront charts.sfc (numbered_sfc []) 0
-            tokens.now.text.now tokens.now.list.items from result
-    }
+    ensures { spec.ParsesFront charts.sfc (numbered_sfc []) 0
+        tokens.now.text.now tokens.now.list.items from result }
 {
     let (mut chart, behind) = chart_front(alloc, tokens, from)?;
     number_sfc(&mut chart, &mut fresh(alloc))?;
@@ -87,45 +86,45 @@ fn fresh(alloc: Global) -> Counting<'static>
     Counting::new(alloc, Starts::of(&[]))
 }
 
-/// What reads the trees of a rule.
-trait Reader<T> {
-    ghost parser: { Parser T };
+/// Reads an expression.
+struct ExpressionReader;
 
-    /// The tree that the next tokens spell.
-    fn read(&self, alloc: Global, cursor: &mut Cursor<'_>) -> Result<T, ParseError>
-        ensures { Reads (parser (view cursor.old)) result (view cursor.new) };
-}
-
-struct Expressions;
-
-impl Reader<Boxed<Expr>> for Expressions {
+impl Reader<Boxed<Expr>> for ExpressionReader {
     ghost use Rattle.st_expr.specs.steps.Parse.{expression};
 
-    ghost parser = { expression };
+    ghost parser = { λ _. expression };
+
+    ghost ready = { λ _. Unit {0} };
 
     fn read(&self, alloc: Global, cursor: &mut Cursor<'_>) -> Result<Boxed<Expr>, ParseError> {
         st_expr::expression(alloc, cursor)
     }
 }
 
-struct Statements;
+/// Reads statements.
+struct StatementsReader;
 
-impl Reader<Items<Stmt>> for Statements {
+impl Reader<Items<Stmt>> for StatementsReader {
     ghost use Rattle.st_statements.specs.steps.Parse.{statements};
 
-    ghost parser = { statements };
+    ghost parser = { λ _. statements };
+
+    ghost ready = { λ _. Unit {0} };
 
     fn read(&self, alloc: Global, cursor: &mut Cursor<'_>) -> Result<Items<Stmt>, ParseError> {
         statement_list(alloc, cursor)
     }
 }
 
-struct Charts;
+/// Reads a chart.
+struct ChartReader;
 
-impl Reader<Sfc> for Charts {
+impl Reader<Sfc> for ChartReader {
     ghost use Rattle.sfc_text.specs.steps.Parse.{sfc};
 
-    ghost parser = { sfc };
+    ghost parser = { λ _. sfc };
+
+    ghost ready = { λ _. Unit {0} };
 
     fn read(&self, alloc: Global, cursor: &mut Cursor<'_>) -> Result<Sfc, ParseError> {
         sfc(alloc, cursor)
@@ -141,9 +140,10 @@ fn expression_front(
 ) -> Result<(Boxed<Expr>, usize), ParseFault>
     requires from { from ≤ length tokens.now.list.items }
     requires outer { outer ≤ max_depth }
-    ensures { FindsFront expressions.expression outer tokens.now.text.now tokens.now.list.items from result }
+    ensures { FindsFront expressions.expression outer tokens.now.text.now tokens.now.list.items from
+        result }
 {
-    front(alloc, tokens, from, outer, &Expressions)
+    front(alloc, tokens, from, outer, &ExpressionReader)
 }
 
 /// The statements at the front, without numbers.
@@ -155,22 +155,19 @@ fn statements_front(
     requires { from ≤ length tokens.now.list.items }
     ensures { FindsFront lists.statements 0 tokens.now.text.now tokens.now.list.items from result }
 {
-    front(alloc, tokens, from, 0, &Statements)
+    front(alloc, tokens, from, 0, &StatementsReader)
 }
 
 /// The chart at the front, without numbers.
-fn chart_front(
-    alloc: Global,
-    tokens: &Tokens<'_>,
-    from: usize,
-) -> Result<(Sfc, usize), ParseFault>
+fn chart_front(alloc: Global, tokens: &Tokens<'_>, from: usize) -> Result<(Sfc, usize), ParseFault>
     requires { from ≤ length tokens.now.list.items }
     ensures { FindsFront charts.sfc 0 tokens.now.text.now tokens.now.list.items from result }
 {
-    front(alloc, tokens, from, 0, &Charts)
+    front(alloc, tokens, from, 0, &ChartReader)
 }
 
-/// What the reader reads of the tokens from a number on, in a place of that depth, and the number of the token behind it.
+/// What the reader reads of the tokens from a number on, in a place of that depth, and the number
+/// of the token behind it.
 fn front<T: Drop, R: Reader<T>>(
     alloc: Global,
     tokens: &Tokens<'_>,
@@ -178,8 +175,9 @@ fn front<T: Drop, R: Reader<T>>(
     outer: usize,
     reader: &R,
 ) -> Result<(T, usize), ParseFault>
-    requires { from ≤ length tokens.now.list.items }
-    ensures { FrontFound R.parser outer tokens.now.text.now tokens.now.list.items from result }
+    requires from { from ≤ length tokens.now.list.items }
+    requires ready { R.ready reader.now }
+    ensures { FrontFound (R.parser reader.now) outer tokens.now.text.now tokens.now.list.items from result }
 {
     let kept = kept_from(alloc, tokens.list.as_slice(), from)?;
     let mut cursor = Cursor {
@@ -207,7 +205,8 @@ fn kept_from(alloc: Global, tokens: &[Token], from: usize) -> Result<Vec<Token>,
     Ok(kept)
 }
 
-/// The number of the token behind so many that are kept, from a number on: of the next one that is kept, or the number of tokens where none
+/// The number of the token behind so many that are kept, from a number on: of the next one that is
+/// kept, or the number of tokens where none
 /// is left.
 fn behind(tokens: &[Token], from: usize, read: usize) -> usize
     requires from { from ≤ length tokens.now }
@@ -236,7 +235,8 @@ fn is_kept(token: Token) -> bool
     !matches!(token.kind, TokenKind::Comment | TokenKind::Pragma)
 }
 
-/// What holds of expressions, statements and charts: a list of tokens begins with exactly one, or has exactly one fault.
+/// What holds of expressions, statements and charts: a list of tokens begins with exactly one, or
+/// has exactly one fault.
 pub fn front_laws()
     ensures expressions { spec.FrontLaws expressions.expression }
     ensures lists { spec.FrontLaws lists.statements }

@@ -16,12 +16,11 @@ use std::sync::ledger::Ledger;
 use token_grammar::{Cursor, Token, Tokens};
 use tree_items::Items;
 
-/// The parts of a file that all the tokens spell, in the order of the text. Their nodes all have the number 0.
+/// The parts of a file that all the tokens spell, in the order of the text. Their nodes all have
+/// the number 0.
 pub(crate) fn parts_of(alloc: Global, tokens: Tokens<'_>) -> Result<Items<FilePart>, ParseFault>
-    ensures {
-        (all : List Lexed) → tokens.entry.list.items ≡ filter is_kept all →
-        PartsFound tokens.entry.text.now all result
-    }
+    ensures { (all : List Lexed) → tokens.entry.list.items ≡ filter is_kept all →
+        PartsFound tokens.entry.text.now all result }
 {
     let mut cursor = Cursor {
         text: tokens.text,
@@ -45,7 +44,8 @@ pub(crate) fn count_steps<L: Ledger>(tokens: &[Token], steps: &mut Steps<L>)
     }
 }
 
-/// What holds of files: the tokens of a text spell exactly one, or have exactly one fault, which stands within the text.
+/// What holds of files: the tokens of a text spell exactly one, or have exactly one fault, which
+/// stands within the text.
 pub fn file_laws()
     ensures some_file { laws.SomeFile }
     ensures one_file { laws.OneFile }

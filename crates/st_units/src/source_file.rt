@@ -1,4 +1,5 @@
-// The tree of a file: its parts with their nodes numbered, its comments, and the places of its line feeds.
+// The tree of a file: its parts with their nodes numbered, its comments, and the places of its line
+// feeds.
 
 ghost use Rattle.std.specs.Prelude.{◌≡◌, IfOk, OnOk, map};
 ghost use Rattle.std.specs.List.Sorted.{IsNonDecreasing, IsPermutation};
@@ -21,7 +22,8 @@ use token_grammar::{Cursor, Token, TokenKind, drop_comments};
 use tree_items::Items;
 use tree_numbers::{Counting, Starts, number_parts, numbered_node, source_tree};
 
-/// The tree of a text, its nodes and comments numbered from 0 in the order of the text. Counts one parse step a token, comments and
+/// The tree of a text, its nodes and comments numbered from 0 in the order of the text. Counts one
+/// parse step a token, comments and
 /// pragmas among them.
 pub fn parse_file<L: Ledger>(
     alloc: Global,
@@ -72,7 +74,8 @@ fn starts_of(alloc: Global, tokens: &[Token]) -> Result<Vec<usize>, AllocError>
     Ok(starts)
 }
 
-/// Numbers the nodes of the parts, in a file whose comments start at these places, and gives the nodes' own places in ascending order.
+/// Numbers the nodes of the parts, in a file whose comments start at these places, and gives the
+/// nodes' own places in ascending order.
 fn number_all(
     alloc: Global,
     parts: &mut Items<FilePart>,

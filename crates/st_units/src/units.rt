@@ -1,11 +1,11 @@
 // Units, and files of them.
 
 ghost use Rattle.std.specs.Prelude.{◌≡◌};
-ghost use Rattle.token_grammar.specs.Input.{Reads, ReadsTo, view};
+ghost use Rattle.token_grammar.specs.Input.{Reads, view};
 ghost use Rattle.st_units.specs.steps.Parse as spec;
 
 use sfc_text::sfc;
-use st_declarations::{config, globals, sections, typename, types};
+use st_declarations::{Reader, config, globals, more, sections, typename, types};
 use st_expr::{identifier, node_at};
 use st_statements::statement_list;
 use st_tree::{Body, FilePart, Unit, UnitKind};
@@ -119,10 +119,7 @@ fn other_part(alloc: Global, cursor: &mut Cursor<'_>) -> Result<FilePart, ParseE
 
 /// `function | block | program | types | globals | config`
 #[tactic(auto, unfolding(crate::specs::steps::Parse::file_part))]
-fn file_part(
-    alloc: Global,
-    cursor: &mut Cursor<'_>,
-) -> Result<FilePart, ParseError>
+fn file_part(alloc: Global, cursor: &mut Cursor<'_>) -> Result<FilePart, ParseError>
     ensures { Reads (spec.file_part (view cursor.old)) result (view cursor.new) }
 {
     if cursor.sees(TokenKind::Function) {
@@ -149,24 +146,24 @@ fn sees_file_part(cursor: &Cursor<'_>) -> bool
                         || cursor.sees(TokenKind::Configuration)))))
 }
 
-#[tactic(auto, unfolding(crate::specs::steps::Parse::more_parts))]
-fn more_parts(
-    alloc: Global,
-    cursor: &mut Cursor<'_>,
-    found: &mut Items<FilePart>,
-) -> Result<(), ParseError>
-    ensures { ReadsTo (spec.more_parts found.old (view cursor.old)) result found.new (view cursor.new) }
-{
-    found.push(file_part(alloc, cursor)?)?;
-    Ok(())
+/// Reads a part of a file.
+struct PartReader;
+
+impl Reader<FilePart> for PartReader {
+    ghost use Rattle.st_units.specs.steps.Parse.{file_part};
+
+    ghost parser = { λ _. file_part };
+
+    ghost ready = { λ _. Unit {0} };
+
+    fn read(&self, alloc: Global, cursor: &mut Cursor<'_>) -> Result<FilePart, ParseError> {
+        file_part(alloc, cursor)
+    }
 }
 
 /// `{ function | block | program | types | globals | config }`
 #[tactic(auto, unfolding(crate::specs::steps::Parse::parts))]
-fn parts(
-    alloc: Global,
-    cursor: &mut Cursor<'_>,
-) -> Result<Items<FilePart>, ParseError>
+fn parts(alloc: Global, cursor: &mut Cursor<'_>) -> Result<Items<FilePart>, ParseError>
     ensures { Reads (spec.parts (view cursor.old)) result (view cursor.new) }
 {
     let mut found = Items::new(alloc);
@@ -174,7 +171,7 @@ fn parts(
         if !sees_file_part(cursor) {
             return Ok(found);
         }
-        more_parts(alloc, cursor, &mut found)?;
+        more(alloc, cursor, &PartReader, &mut found)?;
     }
     Ok(found)
 }
@@ -192,10 +189,7 @@ fn ended(cursor: &Cursor<'_>) -> Result<(), ParseError>
 
 /// The parts of a file, in the order of the text, to its end.
 #[tactic(auto, unfolding(crate::specs::steps::Parse::file))]
-pub fn file(
-    alloc: Global,
-    cursor: &mut Cursor<'_>,
-) -> Result<Items<FilePart>, ParseError>
+pub fn file(alloc: Global, cursor: &mut Cursor<'_>) -> Result<Items<FilePart>, ParseError>
     ensures { Reads (spec.file (view cursor.old)) result (view cursor.new) }
 {
     let found = parts(alloc, cursor)?;

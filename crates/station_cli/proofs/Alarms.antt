@@ -23,7 +23,7 @@ use Rattle.interval_domain.proofs.Within.{within_refl}
 use Rattle.cycle_analysis.proofs.Told.{HasRange, listed, from_list, one_of}
 use Rattle.cycle_analysis.proofs.Rising.{Rises, rising, same_node}
 use Rattle.station_cli.specs.Report.{IsTold, IsHull, IsAlarm, AreOrdered, AreAlarms}
-use Rattle.station_cli.specs.Lines.{IsEntryOf, AreEntriesOf}
+use Rattle.station_cli.specs.steps.Lines.{IsEntryOf, AreEntriesOf}
 use Rattle.station_cli.proofs.Lists.{zip_back, zip_forth}
 
 -- ---- the order

@@ -8,7 +8,7 @@ use Rattle.first_form.specs.declared.tree.Unit.{Unit as SourceUnit}
 use Rattle.first_form.specs.declared.tree.SourceTree.{SourceTree}
 use Rattle.finding_spans.specs.declared.report.Alarm.{Alarm}
 use Rattle.finding_spans.specs.declared.report.Entry.{Entry}
-use Rattle.station_cli.specs.Lines.{AreEntriesOf, IsEntryOf, IsInBody}
+use Rattle.station_cli.specs.steps.Lines.{AreEntriesOf, IsEntryOf, IsInBody}
 use Rattle.station_cli.proofs.Lists.{all_at}
 
 pub one_more_entry : (name text : List ℕ) (tree : SourceTree) (unit : SourceUnit) (hits : List Hit) (k : ℕ) (d : Hit) (entries more : List (Entry Alarm)) (entry : Entry Alarm)

@@ -1,4 +1,5 @@
--- That a run is complete: Complete. That a report on a tree is the defined one: Lists, Statements, Holders, Entries, RangeLines, Planned, Alarms, Made. What stands under it of the tree: Parsed.
+-- That a run is complete: Complete. That a report on a tree is the defined one: Lists, Statements, Holders, Entries, RangeLines, Planned, Alarms, Made. What stands under it of the tree:
+-- Trees, Within, Parsed.
 -- That a report holds of each run: Runs, Says. That it is one: OneAlarms, OneRanges, OneVerdict, OneReport. How a call ends: Reported.
 pub mod Complete
 pub mod Lists
@@ -9,6 +10,8 @@ pub mod RangeLines
 pub mod Planned
 pub mod Alarms
 pub mod Made
+pub mod Trees
+pub mod Within
 pub mod Parsed
 pub mod Runs
 pub mod Says

@@ -32,8 +32,8 @@ use Rattle.cycle_analysis.proofs.Told.{pass_has_ranges}
 use Rattle.cycle_analysis.proofs.Rising.{same_node}
 use Rattle.station_cli.specs.Report.{IsReportOf}
 use Rattle.station_cli.specs.Reports.{IsCounted, IsOfAnalysis}
-use Rattle.station_cli.specs.Parsing.{IsAnalysable}
-use Rattle.station_cli.specs.Lines.{AreEntriesOf, IsInBody, lines_of}
+use Rattle.station_cli.specs.steps.Parsing.{IsAnalysable}
+use Rattle.station_cli.specs.steps.Lines.{AreEntriesOf, IsInBody, lines_of}
 use Rattle.station_cli.proofs.Planned.{body_operators}
 use Rattle.task_config.proofs.Lists.{all_weaker}
 use Rattle.station_cli.proofs.Lists.{all_permuted}

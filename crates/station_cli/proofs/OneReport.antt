@@ -4,8 +4,6 @@ use Rattle.std.specs.Prelude.{ℤ, ◌↔◌}
 use Rattle.std.specs.List.{Contains}
 use Rattle.std.proofs.lemmas.Option.{same_Some}
 use Rattle.interval_domain.proofs.OneGrid.{one_grid}
-use Rattle.token_grammar.specs.declared.token.Token.{Token}
-use Rattle.st_lexer.specs.Laws.{OneCut, OneFault, NotBoth}
 use Rattle.iec_tables.specs.declared.fault.FaultCode.{FaultCode}
 use Rattle.first_form.specs.declared.tree.Unit.{Unit as SourceUnit}
 use Rattle.first_form.specs.declared.tree.SourceTree.{SourceTree}
@@ -20,12 +18,11 @@ use Rattle.cycle_analysis.proofs.OneTable.{AreAlike, same_pass, one_table}
 use Rattle.finding_spans.proofs.OnePosition.{one_position}
 use Rattle.finding_spans.specs.declared.report.Refusal.{Refusal}
 use Rattle.finding_spans.specs.declared.report.Report.{Report}
-use Rattle.station_cli.specs.Report.{AreAlarms, AreRanges, IsReportOf, IsWhole, IsTree, IsAnalysed, IsFaultAt, IsRefusal, IsUnbuilt, IsReport}
+use Rattle.station_cli.specs.Report.{AreAlarms, AreRanges, IsReportOf, IsAnalysed, IsRefusal, IsReport}
 use Rattle.st_tree.specs.declared.plan.PlanRefusal.TheVariants.{NotBuilt}
-use Rattle.st_units.specs.Files.{IsFile, IsFileFault}
-use Rattle.st_units.specs.FileLaws.{OneFileFault, NoneOfBoth}
-use Rattle.st_lexer.specs.Cut.{IsCut}
-use Rattle.station_cli.proofs.Trees.{OneTree, parts_of, whole_of}
+use Rattle.st_units.specs.SourceTrees.{OneTree, OneTextFault, NoTreeAndFault}
+use Rattle.first_form.specs.Laws.{OneForm}
+use Rattle.station_cli.proofs.Trees.{one_form_of, no_form_of}
 use Rattle.station_cli.proofs.OneAlarms.{one_alarms}
 use Rattle.station_cli.proofs.OneRanges.{one_ranges}
 use Rattle.station_cli.proofs.OneVerdict.{one_plain, one_refused, one_unbuilt}
@@ -79,46 +76,36 @@ refusal_at name line column code = record { file = name; line = line; column = c
 
 -- ---- the law, from those of the lexer and the parser
 
-module _ (one_cut : OneCut) (one_fault : OneFault) (not_both : NotBoth) (one_tree : OneTree) (one_file_fault : OneFileFault) (none_of_both : NoneOfBoth) where
-  analysed : (name text : List ℕ) (made other : Report) → IsAnalysed name text made → IsAnalysed name text other → made ≡ other
+module _ (one_tree : OneTree) (one_fault : OneTextFault) (not_both : NoTreeAndFault) (one_form : OneForm) where
+  analysed : (name text : List ℕ) (made other : Report) → IsAnalysed name text made
+      → IsAnalysed name text other → made ≡ other
   analysed name text made other a b =
-      let tokens : a.tokens ≡ b.tokens = one_cut text a.tokens b.tokens a.cut b.cut in
-      let tree : a.tree ≡ b.tree = one_tree text b.tokens a.tree b.tree (subst (λ (ts : List Token). IsTree text ts a.tree) tokens a.spelled) b.spelled in
-      one_report_of name text b.tree made other b.spelled.form.numbered (subst (λ (t : SourceTree). IsReportOf name text t made) tree a.report) b.report
-
-  -- a text has one fault at most
-  same_fault : (text : List ℕ) (c d : FaultCode) (at place : ℕ) → IsFaultAt text c at → IsFaultAt text d place → (c ≡ d) × (at ≡ place)
-  same_fault text c d at place (inl x) (inl y) = one_fault text c d at place x y
-  same_fault text c d at place (inl x) (inr (tokens, cut, r)) = absurd (not_both text tokens c at cut x)
-  same_fault text c d at place (inr (tokens, cut, r)) (inl y) = absurd (not_both text tokens d place cut y)
-  same_fault text c d at place (inr (xs, x, r)) (inr (ys, y, s)) =
-      one_file_fault text ys c d at place (subst (λ (ts : List Token). IsFileFault text ts c at) (one_cut text xs ys x y) r) s
-
-  -- a text whose tokens spell a file has no fault
-  faultless : (text : List ℕ) (tokens : List Token) (code : FaultCode) (at : ℕ) → IsCut text tokens → IsWhole text tokens → IsFaultAt text code at → ⊥
-  faultless text tokens code at cut whole (inl x) = not_both text tokens code at cut x
-  faultless text tokens code at cut whole (inr (ys, y, r)) = 
-      let parts = parts_of text tokens whole.0 whole.1 in
-      none_of_both text ys parts.0 code at (subst (λ (ts : List Token). IsFile text ts parts.0) (one_cut text tokens ys cut y) parts.1) r
-
-  -- a text that is analysed is of the form whose analysis is built
-  built : (name text : List ℕ) (made other : Report) → IsAnalysed name text made → IsUnbuilt text other → ⊥
-  built name text made other a u = u.other a.tree (subst (λ (ts : List Token). IsTree text ts a.tree) (one_cut text a.tokens u.tokens a.cut u.cut) a.spelled)
+      let tree : a.tree ≡ b.tree = one_form_of one_tree one_form text a.tree b.tree a.spelled b.spelled in
+      one_report_of name text b.tree made other b.spelled.form.numbered
+      (subst (λ (t : SourceTree). IsReportOf name text t made) tree a.report) b.report
 
   one_refusal : (name text : List ℕ) (made other : Report) → IsRefusal name text made → IsRefusal name text other → made ≡ other
   one_refusal name text made other a b =
-      let same = same_fault text a.code b.code a.at b.at a.fault b.fault in
+      let same = one_fault text a.code b.code a.at b.at a.fault b.fault in
       let position = one_position text a.at b.at a.line a.column b.line b.column same.1 a.position b.position in
       one_refused made other (refusal_at name a.line a.column a.code) (refusal_at name b.line b.column b.code) a.verdict_is b.verdict_is
       (λ i. refusal_at name (position.0 i) (position.1 i) (same.0 i)) a.counted b.counted a.waived b.waived
 
-  pub one_report : (name text : List ℕ) (made other : Report) → IsReport name text made → IsReport name text other → made ≡ other
+  pub one_report : (name text : List ℕ) (made other : Report) → IsReport name text made
+      → IsReport name text other → made ≡ other
   one_report name text made other (inl a) (inl b) = analysed name text made other a b
-  one_report name text made other (inl a) (inr (inl b)) = absurd (faultless text a.tokens b.code b.at a.cut (whole_of text a.tokens a.tree a.spelled) b.fault)
-  one_report name text made other (inl a) (inr (inr b)) = absurd (built name text made other a b)
-  one_report name text made other (inr (inl a)) (inl b) = absurd (faultless text b.tokens a.code a.at b.cut (whole_of text b.tokens b.tree b.spelled) a.fault)
+  one_report name text made other (inl a) (inr (inl b)) =
+      absurd (not_both text a.spelled.file b.code b.at a.spelled.parsed b.fault)
+  one_report name text made other (inl a) (inr (inr b)) =
+      absurd (no_form_of one_tree text b.file b.parsed b.other a.tree a.spelled)
+  one_report name text made other (inr (inl a)) (inl b) =
+      absurd (not_both text b.spelled.file a.code a.at b.spelled.parsed a.fault)
   one_report name text made other (inr (inl a)) (inr (inl b)) = one_refusal name text made other a b
-  one_report name text made other (inr (inl a)) (inr (inr b)) = absurd (faultless text b.tokens a.code a.at b.cut b.whole a.fault)
-  one_report name text made other (inr (inr a)) (inl b) = absurd (built name text other made b a)
-  one_report name text made other (inr (inr a)) (inr (inl b)) = absurd (faultless text a.tokens b.code b.at a.cut a.whole b.fault)
-  one_report name text made other (inr (inr a)) (inr (inr b)) = one_unbuilt made other NotBuilt a.verdict_is b.verdict_is a.counted b.counted a.waived b.waived
+  one_report name text made other (inr (inl a)) (inr (inr b)) =
+      absurd (not_both text b.file a.code a.at b.parsed a.fault)
+  one_report name text made other (inr (inr a)) (inl b) =
+      absurd (no_form_of one_tree text a.file a.parsed a.other b.tree b.spelled)
+  one_report name text made other (inr (inr a)) (inr (inl b)) =
+      absurd (not_both text a.file b.code b.at a.parsed b.fault)
+  one_report name text made other (inr (inr a)) (inr (inr b)) =
+      one_unbuilt made other NotBuilt a.verdict_is b.verdict_is a.counted b.counted a.waived b.waived

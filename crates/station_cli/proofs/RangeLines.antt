@@ -13,7 +13,7 @@ use Rattle.cycle_analysis.specs.Solved.{HasRanges, table_of}
 use Rattle.station_cli.specs.Report.{AreRanges}
 use Rattle.st_tree.specs.declared.code.CellInfo.{CellInfo}
 use Rattle.finding_spans.specs.declared.report.RangeLine.{RangeLine}
-use Rattle.station_cli.specs.Lines.{range_line, lines_of}
+use Rattle.station_cli.specs.steps.Lines.{range_line, lines_of}
 
 lines_suc : (cells : List CellInfo) (ranges : List Interval) (n : ℕ) (c : CellInfo) (i : Interval) → n < length cells → n < length ranges
     → lines_of (take (suc n) cells) (take (suc n) ranges) ≡ lines_of (take n cells) (take n ranges) ++ range_line (get_or cells n c) (get_or ranges n i) ∷ []

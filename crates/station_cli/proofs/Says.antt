@@ -10,7 +10,6 @@ use Rattle.station_ports.specs.Views.{PortView}
 use Rattle.station_ports.specs.Calls.{Puts, IsContent}
 use Rattle.station_ports.specs.declared.outside.PutRefusal.{PutRefusal}
 use Rattle.station_ports.specs.declared.outside.PutRefusal.TheVariants as refusal
-use Rattle.token_grammar.specs.declared.token.Token.{Token}
 use Rattle.first_form.specs.declared.tree.Unit.{Unit as SourceUnit}
 use Rattle.st_tree.specs.declared.code.Component.{Component}
 use Rattle.task_config.specs.Plan.{IsComponent}
@@ -25,8 +24,10 @@ use Rattle.finding_spans.specs.declared.report.Verdict.{Verdict}
 use Rattle.finding_spans.specs.declared.report.Verdict.TheVariants as verdict
 use Rattle.report_text.specs.Text.{verdict_line, alarm_line, range_line, end_line, text_of}
 use Rattle.station_cli.specs.Words.{Command, check, command_of}
-use Rattle.station_cli.specs.Report.{IsReport, IsAnalysed, IsFaultAt, IsTree}
-use Rattle.station_cli.proofs.Trees.{OneTree, parts_of}
+use Rattle.st_units.specs.SourceTrees.{OneTree, NoTreeAndFault}
+use Rattle.first_form.specs.Laws.{OneForm}
+use Rattle.station_cli.specs.Report.{IsReport, IsAnalysed}
+use Rattle.station_cli.proofs.Trees.{one_form_of, no_form_of}
 use Rattle.station_cli.specs.Reports.{Fits, IsOfAnalysis}
 use Rattle.station_cli.specs.Run.{World, Course, misused, checked, too_long, unread, out_of_memory, Happens, max_file, IsWork, IsWritten}
 use Rattle.station_cli.specs.Run.{verdict_status}
@@ -35,10 +36,6 @@ use Rattle.station_cli.specs.Run as runs
 use Rattle.station_cli.specs.Headline.{IsProgram, IsForetold, IsFaultless, IsOfReport, IsSafe, FreeIsSafe, NeverWaits, IsCovered, AlarmsCover, IsReportedSafe, IsReportedCovered, ReportsHold, FreeHolds}
 use Rattle.station_cli.specs.declared.status.Status.{Status}
 use Rattle.station_cli.specs.declared.status.Status.TheVariants.{Clean, Open}
-use Rattle.iec_tables.specs.declared.fault.FaultCode.{FaultCode}
-use Rattle.st_lexer.specs.Laws.{OneCut, NotBoth}
-use Rattle.st_units.specs.Files.{IsFile}
-use Rattle.st_units.specs.FileLaws.{NoneOfBoth}
 use Rattle.station_cli.proofs.Runs.{foretold}
 
 -- ---- what was put
@@ -112,18 +109,30 @@ analysed_of name text made (inr (inr r)) h = absurd (subst IsOfAnalysis r.verdic
 units_are : (u v : SourceUnit) → u ∷ [] ≡ v ∷ [] → u ≡ v
 units_are u v e = cc
 
-planned_of : OneCut → OneTree → (name text : List ℕ) (made : Report) (a : IsAnalysed name text made) (component : Component) → IsProgram text component → IsComponent a.report.unit component
-planned_of one_cut one_tree name text made a component p =
-    let tokens : p.tokens ≡ a.tokens = one_cut text p.tokens a.tokens p.cut a.cut in
-    let tree : p.tree ≡ a.tree = one_tree text a.tokens p.tree a.tree (subst (λ (ts : List Token). IsTree text ts p.tree) tokens p.spelled) a.spelled in
-    let unit : p.unit ≡ a.report.unit = units_are p.unit a.report.unit (sym p.units ∙ ap (λ t. t.units) tree ∙ a.report.units) in
+planned_of : OneTree → OneForm → (name text : List ℕ) (made : Report) (a : IsAnalysed name text made)
+    (component : Component) → IsProgram text component → IsComponent a.report.unit component
+planned_of one_tree one_form name text made a component p =
+    let tree : p.tree ≡ a.tree = one_form_of one_tree one_form text p.tree a.tree p.spelled a.spelled in
+    let unit : p.unit ≡ a.report.unit =
+    units_are p.unit a.report.unit (sym p.units ∙ ap (λ t. t.units) tree ∙ a.report.units) in
     subst (λ (u : SourceUnit). IsComponent u component) unit p.planned
 
-program_of : (name text : List ℕ) (made : Report) (a : IsAnalysed name text made) → IsProgram text a.report.component
-program_of name text made a = record { tokens = a.tokens; tree = a.tree; unit = a.report.unit; cut = a.cut; spelled = a.spelled; units = a.report.units; planned = a.report.planned }
+program_of : (name text : List ℕ) (made : Report) (a : IsAnalysed name text made)
+    → IsProgram text a.report.component
+program_of name text made a = record {
+  tree = a.tree;
+  unit = a.report.unit;
+  spelled = a.spelled;
+  units = a.report.units;
+  planned = a.report.planned;
+}
 
-foretold_of : Theorem → OneCut → OneTree → (name text : List ℕ) (made : Report) → IsAnalysed name text made → (component : Component) → IsProgram text component → (moves : List Move) → IsForetold component made (run component moves (start component))
-foretold_of law one_cut one_tree name text made a component p moves = foretold law name text a.tree made a.report component (planned_of one_cut one_tree name text made a component p) moves
+foretold_of : Theorem → OneTree → OneForm → (name text : List ℕ) (made : Report)
+    → IsAnalysed name text made → (component : Component) → IsProgram text component
+    → (moves : List Move) → IsForetold component made (run component moves (start component))
+foretold_of law one_tree one_form name text made a component p moves =
+    foretold law name text a.tree made a.report component
+    (planned_of one_tree one_form name text made a component p) moves
 
 live_of : Theorem_steady → (text : List ℕ) → NeverWaits text
 live_of steady text component p moves state e = steady component (component_steady p.unit component p.planned) moves state e
@@ -155,58 +164,55 @@ of_report words old bytes text n letter e c a = record {
   defined = program_of c.name c.content c.made a;
 }
 
-module _ (law : Theorem) (steady : Theorem_steady) (one_cut : OneCut) (one_tree : OneTree) (words : List (List ℕ)) (old : World) (bytes text : List ℕ) (n : ℕ) (e : bytes ≡ take n text) where
+module _ (law : Theorem) (steady : Theorem_steady) (one_tree : OneTree) (one_form : OneForm) (words : List (List ℕ)) (old : World) (bytes text : List ℕ) (n : ℕ) (e : bytes ≡ take n text) where
   is_safe : (c : IsChecked (command_of words) old 70 text) → c.made.verdict ≡ verdict.Free → IsAnalysed c.name c.content c.made → IsSafe words old bytes
   is_safe c free a = record {
     of_report = of_report words old bytes text n 70 e c a;
     free = free;
     faultless = λ component q moves. faultless_by component c.made (run component moves (start component)) (free_alarms c.made.verdict _ _ free a.report.counted.verdict)
-        (foretold_of law one_cut one_tree c.name c.content c.made a component q moves);
+        (foretold_of law one_tree one_form c.name c.content c.made a component q moves);
     live = live_of steady c.content;
   }
 
   is_covered : (c : IsChecked (command_of words) old 65 text) → IsAnalysed c.name c.content c.made → IsCovered words old bytes
   is_covered c a = record {
     of_report = of_report words old bytes text n 65 e c a;
-    foretold = λ component q moves. foretold_of law one_cut one_tree c.name c.content c.made a component q moves;
+    foretold = λ component q moves. foretold_of law one_tree one_form c.name c.content c.made a component q moves;
     live = live_of steady c.content;
   }
 
 of_free : (v : Verdict) → v ≡ verdict.Free → IsOfAnalysis v
 of_free v e = subst IsOfAnalysis (sym e) tt
 
-module _ (law : Theorem) (steady : Theorem_steady) (one_cut : OneCut) (one_tree : OneTree) (words : List (List ℕ)) {old new : World} {status ended : Status} {text : List ℕ} {old_out new_out : PortView}
+module _ (law : Theorem) (steady : Theorem_steady) (one_tree : OneTree) (one_form : OneForm) (words : List (List ℕ)) {old new : World} {status ended : Status} {text : List ℕ} {old_out new_out : PortView}
     (work : IsWork (command_of words) old new status text) (put : IsWritten old_out new_out status text ended) where
   pub free_says : FreeIsSafe words old old_out new_out
   free_says before bytes says =
       let p : (n : ℕ) × (bytes ≡ take n text) = put_prefix old_out.sent new_out.sent before bytes text put.answer says.old_bytes says.new_bytes put.written.bytes_put in
       let c = checked_of (command_of words) old new 70 work.course text (omega arith) work.cause work.text_is (ninth text bytes (codes "VERDICT FREE") p.0 12 70 p.1 says.begins refl (lit< tt) refl) in
       let free = report_free c.made c.begins in
-      is_safe law steady one_cut one_tree words old bytes text p.0 p.1 c free (analysed_of c.name c.content c.made c.report (of_free c.made.verdict free))
+      is_safe law steady one_tree one_form words old bytes text p.0 p.1 c free (analysed_of c.name c.content c.made c.report (of_free c.made.verdict free))
 
   pub alarms_say : AlarmsCover words old old_out new_out
   alarms_say before bytes says =
       let p : (n : ℕ) × (bytes ≡ take n text) = put_prefix old_out.sent new_out.sent before bytes text put.answer says.old_bytes says.new_bytes put.written.bytes_put in
       let c = checked_of (command_of words) old new 65 work.course text (omega arith) work.cause work.text_is (ninth text bytes (codes "VERDICT ALARMS") p.0 14 65 p.1 says.begins refl (lit< tt) refl) in
-      is_covered law steady one_cut one_tree words old bytes text p.0 p.1 c (analysed_of c.name c.content c.made c.report (report_kept c.made c.begins))
+      is_covered law steady one_tree one_form words old bytes text p.0 p.1 c (analysed_of c.name c.content c.made c.report (report_kept c.made c.begins))
 
 -- ---- what the definitions say alone
 
 -- a text that spells a program is not refused
-module _ (law : Theorem) (steady : Theorem_steady) (one_cut : OneCut) (not_both : NotBoth) (one_tree : OneTree) (none_of_both : NoneOfBoth) where
-  unrefused : (text : List ℕ) (component : Component) (code : FaultCode) (at : ℕ) → IsProgram text component → IsFaultAt text code at → ⊥
-  unrefused text component code at p (inl fault) = not_both text p.tokens code at p.cut fault
-  unrefused text component code at p (inr (tokens, cut, refused)) =
-      let whole = parts_of text p.tokens p.spelled.file p.spelled.spelled in
-      none_of_both text tokens whole.0 code at (subst (λ (ts : List Token). IsFile text ts whole.0) (one_cut text p.tokens tokens p.cut cut) whole.1) refused
-
-  analysed_program : (name text : List ℕ) (made : Report) (component : Component) → IsProgram text component → IsReport name text made → IsAnalysed name text made
+module _ (law : Theorem) (steady : Theorem_steady) (one_tree : OneTree) (one_form : OneForm) (not_both : NoTreeAndFault) where
+  analysed_program : (name text : List ℕ) (made : Report) (component : Component)
+      → IsProgram text component → IsReport name text made → IsAnalysed name text made
   analysed_program name text made component p (inl a) = a
-  analysed_program name text made component p (inr (inl r)) = absurd (unrefused text component r.code r.at p r.fault)
-  analysed_program name text made component p (inr (inr r)) = absurd (r.other p.tree (subst (λ (ts : List Token). IsTree text ts p.tree) (one_cut text p.tokens r.tokens p.cut r.cut) p.spelled))
+  analysed_program name text made component p (inr (inl r)) =
+      absurd (not_both text p.spelled.file r.code r.at p.spelled.parsed r.fault)
+  analysed_program name text made component p (inr (inr r)) =
+      absurd (no_form_of one_tree text r.file r.parsed r.other p.tree p.spelled)
 
   pub reports_hold : ReportsHold
-  reports_hold name text made h component p moves = foretold_of law one_cut one_tree name text made (analysed_program name text made component p h) component p moves
+  reports_hold name text made h component p moves = foretold_of law one_tree one_form name text made (analysed_program name text made component p h) component p moves
 
   pub free_holds : FreeHolds
   free_holds name text made h free =

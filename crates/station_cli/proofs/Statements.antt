@@ -9,7 +9,7 @@ use Rattle.first_form.specs.declared.tree.Unit.{Unit as SourceUnit}
 use Rattle.first_form.specs.declared.tree.SourceTree.{SourceTree}
 use Rattle.first_form.specs.Nodes.{stmt_nodes, section_nodes, unit_nodes, nodes_of}
 use Rattle.task_config.proofs.Held.{numbers_more, numbers_less}
-use Rattle.station_cli.specs.Lines.{IsInBody}
+use Rattle.station_cli.specs.steps.Lines.{IsInBody}
 use Rattle.cycle_analysis.proofs.Lists.{in_cases}
 
 in_body : (body : List Stmt) (stmt : Stmt) (number : NodeNo) → Contains body stmt → Contains (map (λ (n : Node). n.number) (stmt_nodes stmt)) number → Contains (map (λ (n : Node). n.number) (flat_map stmt_nodes body)) number

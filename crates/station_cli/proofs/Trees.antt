@@ -1,34 +1,22 @@
--- The trees that the tokens of a text spell.
-use Rattle.std.proofs.Common.{◌≡◌, ℕ, List, sym, subst}
-use Rattle.token_grammar.specs.declared.token.Token.{Token}
-use Rattle.st_tree.specs.declared.file.FilePart.{FilePart}
+-- The trees of the first form that a text has.
+use Rattle.std.proofs.Common.{◌≡◌, ℕ, List, subst}
 use Rattle.st_tree.specs.declared.file.SourceTree.{SourceTree as SourceFile}
-use Rattle.st_units.specs.Files.{IsFile}
-use Rattle.st_units.specs.SourceTrees.{IsSourceTree}
-use Rattle.st_units.specs.SourceTrees as file_trees
+use Rattle.st_units.specs.SourceTrees.{IsTreeOf, OneTree}
 use Rattle.first_form.specs.declared.tree.SourceTree.{SourceTree}
 use Rattle.first_form.specs.FirstForm.{IsFirstForm}
 use Rattle.first_form.specs.Laws.{OneForm}
-use Rattle.station_cli.specs.Report.{IsWhole, IsTree}
+use Rattle.station_cli.specs.Report.{IsFormOf}
 
--- The tokens of a text spell one tree of the first form at most.
-abbrev pub OneTree : Type 0
-OneTree = (text : List ℕ) (tokens : List Token) (tree other : SourceTree) → IsTree text tokens tree → IsTree text tokens other → tree ≡ other
+module _ (one_tree : OneTree) where
+  -- a text has one at most,
+  pub one_form_of : OneForm → (text : List ℕ) (tree other : SourceTree) → IsFormOf text tree
+      → IsFormOf text other → tree ≡ other
+  one_form_of one_form text tree other a b =
+      let file : a.file ≡ b.file = one_tree text a.file b.file a.parsed b.parsed in
+      one_form b.file tree other (subst (λ (f : SourceFile). IsFirstForm f tree) file a.form) b.form
 
-pub one_tree : file_trees.OneTree → OneForm → OneTree
-one_tree one_file one_form text tokens tree other a b =
-    let file : a.file ≡ b.file = one_file text tokens a.file b.file a.spelled b.spelled in
-    one_form b.file tree other (subst (λ (f : SourceFile). IsFirstForm f tree) file a.form) b.form
-
--- tokens that spell a tree of the first form spell a file, and one of these parts
-pub whole_of : (text : List ℕ) (tokens : List Token) (tree : SourceTree) → IsTree text tokens tree → IsWhole text tokens
-whole_of text tokens tree is = (is.file, is.spelled)
-
-pub parts_of : (text : List ℕ) (tokens : List Token) (file : SourceFile) → IsSourceTree text tokens file → (parts : List FilePart) × IsFile text tokens parts
-parts_of text tokens file is = (is.parts, is.spelled)
-
--- where a file is of another form, its tokens spell no tree of the first form
-pub another_form : file_trees.OneTree → (text : List ℕ) (tokens : List Token) (file : SourceFile) → IsSourceTree text tokens file → ((tree : SourceTree) → IsFirstForm file tree → ⊥)
-    → (tree : SourceTree) → IsTree text tokens tree → ⊥
-another_form one_file text tokens file is none tree t =
-    none tree (subst (λ (f : SourceFile). IsFirstForm f tree) (one_file text tokens t.file file t.spelled is) t.form)
+  -- and none where its file is of another form
+  pub no_form_of : (text : List ℕ) (file : SourceFile) → IsTreeOf text file
+      → ((tree : SourceTree) → IsFirstForm file tree → ⊥) → (tree : SourceTree) → IsFormOf text tree → ⊥
+  no_form_of text file is none tree t =
+      none tree (subst (λ (f : SourceFile). IsFirstForm f tree) (one_tree text t.file file t.parsed is) t.form)

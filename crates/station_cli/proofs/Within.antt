@@ -44,7 +44,7 @@ use Rattle.first_form.specs.FirstForm.{Known, ◌>>=◌, each, named, is_empty, 
 use Rattle.first_form.proofs.OneTree.{unit}
 
 -- what a test lets through
-let_through : {X : Type 0} (b : Bool) (o : Option X) (y : X) → cond b o None ≡ Some y → o ≡ Some y
+pub let_through : {X : Type 0} (b : Bool) (o : Option X) (y : X) → cond b o None ≡ Some y → o ≡ Some y
 let_through true o y e = e
 let_through false o y e = absurd (none-some y e)
 

@@ -5,8 +5,6 @@ use Rattle.std.specs.List.{Contains}
 use Rattle.iec_tables.specs.declared.kind.Kind.{Kind}
 use Rattle.interval_domain.specs.Interval.{Span, Holds}
 use Rattle.interval_domain.specs.Operators.{kept}
-use Rattle.token_grammar.specs.declared.token.Token.{Token}
-use Rattle.st_lexer.specs.Cut.{IsCut}
 use Rattle.st_tree.specs.declared.node.Site.{Site}
 use Rattle.first_form.specs.declared.tree.Unit.{Unit as SourceUnit}
 use Rattle.first_form.specs.declared.tree.SourceTree.{SourceTree}
@@ -25,21 +23,19 @@ use Rattle.station_ports.specs.Views.{PortView}
 use Rattle.station_ports.specs.Calls.{IsContent}
 use Rattle.report_text.specs.Text.{text_of}
 use Rattle.station_cli.specs.Words.{check, command_of}
-use Rattle.station_cli.specs.Report.{IsReport, IsTree}
+use Rattle.station_cli.specs.Report.{IsReport, IsFormOf}
 use Rattle.station_cli.specs.Run.{World, max_file}
 use Rattle.station_cli.specs.Causes.{IsReportedAs}
 use Rattle.station_cli.specs.declared.status.Status.TheVariants.{Clean, Open}
 
 -- ---- the program of a text, and what a report says of a run
 
--- A component that a text defines: that of the one program of the file that its tokens spell. (They differ
--- in the order and number of their literals and in how their code lies in memory.)
+-- A component that a text defines: that of the one program of the file that the text is. (They differ in
+-- the order and number of their literals and in how their code lies in memory.)
 pub record IsProgram (text : List ℕ) (component : Component) : Type 0 where
-  pub tokens : List Token
   pub tree : SourceTree
   pub unit : SourceUnit
-  pub cut : IsCut text tokens
-  pub spelled : IsTree text tokens tree
+  pub spelled : IsFormOf text tree
   pub units : tree.units ≡ unit ∷ []
   pub planned : IsComponent unit component
 

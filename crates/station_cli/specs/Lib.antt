@@ -1,10 +1,9 @@
 pub mod Words
 pub mod Reports
 pub mod Report
-pub mod Parsing
-pub mod Lines
 pub mod Run
 pub mod Causes
 pub mod Headline
 pub mod Codes
 pub mod OneReport
+pub mod steps

@@ -9,8 +9,7 @@ use Rattle.st_tree.specs.declared.node.Site.{Site}
 use Rattle.iec_tables.specs.declared.fault.FaultCode.{FaultCode}
 use Rattle.st_tree.specs.declared.file.SourceTree.{SourceTree as SourceFile}
 use Rattle.st_tree.specs.declared.plan.PlanRefusal.TheVariants.{NotBuilt}
-use Rattle.st_units.specs.Files.{IsFileFault}
-use Rattle.st_units.specs.SourceTrees.{IsSourceTree}
+use Rattle.st_units.specs.SourceTrees.{IsTreeOf, IsFaultOf}
 use Rattle.first_form.specs.declared.tree.Stmt.{Stmt}
 use Rattle.first_form.specs.declared.tree.Stmt.TheVariants.{Assign}
 use Rattle.first_form.specs.declared.tree.Unit.{Unit as SourceUnit}
@@ -18,8 +17,6 @@ use Rattle.first_form.specs.declared.tree.SourceTree.{SourceTree}
 use Rattle.st_tree.specs.declared.code.TaskCode.{TaskCode}
 use Rattle.st_tree.specs.declared.code.Component.{Component}
 use Rattle.first_form.specs.Nodes.{stmt_nodes}
-use Rattle.token_grammar.specs.declared.token.Token.{Token}
-use Rattle.st_lexer.specs.Cut.{IsCut, IsFault}
 use Rattle.first_form.specs.FirstForm.{IsFirstForm}
 use Rattle.task_config.specs.Plan.{IsComponent}
 use Rattle.cycle_analysis.specs.Pass.{Entry as Told, Alarm as Alarmed}
@@ -108,46 +105,35 @@ pub record IsReportOf (name text : List ℕ) (tree : SourceTree) (report : Repor
   pub counted : IsCounted report
   pub waived : report.waived_count ≡ 0
 
--- The tokens spell a file.
-abbrev pub IsWhole : List ℕ → List Token → Type 0
-IsWhole text tokens = (file : SourceFile) × IsSourceTree text tokens file
-
--- The tokens spell a file of the form whose analysis is built, and this is its tree.
-pub record IsTree (text : List ℕ) (tokens : List Token) (tree : SourceTree) : Type 0 where
+-- The text is a file of the form whose analysis is built, and this is its tree.
+pub record IsFormOf (text : List ℕ) (tree : SourceTree) : Type 0 where
   pub file : SourceFile
-  pub spelled : IsSourceTree text tokens file
+  pub parsed : IsTreeOf text file
   pub form : IsFirstForm file tree
 
--- The report on a text that is analysed: its tokens spell a file of the form whose analysis is built.
+-- The report on a text that is analysed: it is a file of the form whose analysis is built.
 pub record IsAnalysed (name text : List ℕ) (made : Report) : Type 0 where
-  pub tokens : List Token
   pub tree : SourceTree
-  pub cut : IsCut text tokens
-  pub spelled : IsTree text tokens tree
+  pub spelled : IsFormOf text tree
   pub report : IsReportOf name text tree made
 
--- The first fault of a text, with its place in bytes: that for which it isn't cut into tokens, or that for which its tokens spell no file.
-abbrev pub IsFaultAt : List ℕ → FaultCode → ℕ → Type 0
-IsFaultAt text code at = IsFault text code at ⊎ ((tokens : List Token) × IsCut text tokens × IsFileFault text tokens code at)
-
--- The report on a text that is refused.
+-- The report on a text that is refused, for its first fault.
 pub record IsRefusal (name text : List ℕ) (report : Report) : Type 0 where
   pub code : FaultCode
   pub at : ℕ
   pub line : ℕ
   pub column : ℕ
-  pub fault : IsFaultAt text code at
+  pub fault : IsFaultOf text code at
   pub position : IsPosition text at line column
   pub verdict_is : report.verdict ≡ verdict.Refused (record { file = name; line = line; column = column; code = code })
   pub counted : IsCounted report
   pub waived : report.waived_count ≡ 0
 
--- The report on a text that isn't analysed: its tokens spell a file, but none of the form whose analysis is built.
+-- The report on a text that isn't analysed: it is a file, but none of the form whose analysis is built.
 pub record IsUnbuilt (text : List ℕ) (report : Report) : Type 0 where
-  pub tokens : List Token
-  pub cut : IsCut text tokens
-  pub whole : IsWhole text tokens
-  pub other : (tree : SourceTree) → IsTree text tokens tree → ⊥
+  pub file : SourceFile
+  pub parsed : IsTreeOf text file
+  pub other : (tree : SourceTree) → IsFirstForm file tree → ⊥
   pub verdict_is : report.verdict ≡ verdict.NotAnalysed NotBuilt
   pub counted : IsCounted report
   pub waived : report.waived_count ≡ 0

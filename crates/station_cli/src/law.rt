@@ -7,9 +7,8 @@ ghost use Rattle.station_cli.specs.OneReport.{OneReport, OneCourse};
 pub fn one_report()
     ensures { OneReport }
 {
-    st_lexer::cut_laws();
-    first_form::tree_laws();
-    st_units::file_laws();
+    st_units::text_laws();
+    first_form::form_laws();
 }
 
 /// The report that is defined for a text holds of each run of the program that the text spells; where it is FREE, no run faults and no
@@ -18,9 +17,8 @@ pub fn reports_hold()
     ensures all { ReportsHold }
     ensures free { FreeHolds }
 {
-    st_lexer::cut_laws();
-    first_form::tree_laws();
-    st_units::file_laws();
+    st_units::text_laws();
+    first_form::form_laws();
     cycle_analysis::headline();
 }
 

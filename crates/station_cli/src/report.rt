@@ -5,24 +5,23 @@ ghost use Rattle.std.specs.List.{AllByRecursion, Contains};
 ghost use Rattle.first_form.specs.Nodes.{IsNumbered};
 ghost use Rattle.first_form.specs.declared.tree.Unit.{Unit as SourceUnit};
 ghost use Rattle.station_cli.specs.Reports.{IsCounted, IsOfAnalysis};
-ghost use Rattle.station_cli.specs.Report.{IsReport, IsRefusal, IsReportOf, IsWhole, IsFaultAt, IsUnder, subject};
+ghost use Rattle.station_cli.specs.Report.{IsReport, IsRefusal, IsReportOf, IsUnder, subject};
 ghost use Rattle.st_tree.specs.declared.plan.PlanRefusal.TheVariants as Reason;
-ghost use Rattle.token_grammar.specs.declared.token.Token.{Token};
-ghost use Rattle.st_lexer.specs.Cut.{IsCut};
-ghost use Rattle.station_cli.specs.Parsing.{IsAnalysable, IsParsed};
-ghost use Rattle.station_cli.specs.Lines.{AreEntriesOf, IsAlarmOf, IsEntryOf, IsInBody, lines_of, range_line};
+ghost use Rattle.st_units.specs.SourceTrees.{IsTreeOf, IsFaultOf};
+ghost use Rattle.station_cli.specs.steps.Parsing.{IsAnalysable, IsParsed};
+ghost use Rattle.station_cli.specs.steps.Lines.{AreEntriesOf, IsAlarmOf, IsEntryOf, IsInBody, lines_of, range_line};
 
 use cycle_analysis::{Solution, solve};
 use finding_spans::{
     Alarm, AlarmCount, Entry, RangeLine, Refusal, Report, Verdict, line_of, place, statement_of,
 };
-use first_form::{ParseFault, SourceTree, Stmt, first_form, tree_laws};
+use first_form::{SourceTree, Stmt, first_form, form_laws};
 use iec_tables::fault::FaultCode;
 use interval_domain::grid::Grid;
 use interval_domain::interval::Interval;
-use st_lexer::{LexFault, cut_laws, tokens};
-use st_tree::{CellInfo, Component, Hit, NodeNo, PlanRefusal};
-use st_units::{ParseFault as FileFault, file_laws, parse_parts};
+use st_lexer::{LexFault, cut_laws};
+use st_tree::{CellInfo, Component, Hit, NodeNo, PlanRefusal, SourceTree as SourceFile};
+use st_units::{ParseFault, file_laws, parse_file};
 use station_ports::outside::NoMemory;
 use station_ports::steps::Steps;
 use station_ports::texts::{FileText, Name};
@@ -74,29 +73,23 @@ fn tree_of<L: Ledger>(
 {
     cut_laws();
     file_laws();
-    match parse_parts(alloc, text.bytes(), steps) {
-        Ok(_) => first_tree(alloc, text),
-        Err(FileFault::At { code, at }) => Ok(Parsed::Fault(Fault { code, at })),
-        Err(FileFault::Lex(LexFault::At { code, at })) => Ok(Parsed::Fault(Fault { code, at })),
-        Err(FileFault::Lex(LexFault::NoMemory) | FileFault::NoMemory) => Err(NoMemory),
+    match parse_file(alloc, text.bytes(), steps) {
+        Ok(file) => first_tree(alloc, &file),
+        Err(ParseFault::At { code, at }) => Ok(Parsed::Fault(Fault { code, at })),
+        Err(ParseFault::Lex(LexFault::At { code, at })) => Ok(Parsed::Fault(Fault { code, at })),
+        Err(ParseFault::Lex(LexFault::NoMemory) | ParseFault::NoMemory) => Err(NoMemory),
     }
 }
 
-/// The tree of the form whose analysis is built, of a text that is a file.
-fn first_tree(alloc: Global, text: &FileText) -> Result<Parsed, NoMemory>
-    ensures { IfOk result (λ parsed. (tokens : List Token) → IsCut text.now tokens → IsWhole text.now tokens → IsParsed text.now parsed) }
+/// The tree of the form whose analysis is built, of the tree of a text.
+fn first_tree(alloc: Global, file: &SourceFile) -> Result<Parsed, NoMemory>
+    ensures { IfOk result (λ parsed. (text : List ℕ) → IsTreeOf text file.now → length text ≤ 1048576 →
+        IsParsed text parsed) }
 {
-    cut_laws();
-    tree_laws();
-    let tokens = match tokens(alloc, text.bytes()) {
-        Ok(tokens) => tokens,
-        Err(LexFault::At { .. }) => return Ok(Parsed::Other),
-        Err(LexFault::NoMemory) => return Err(NoMemory),
-    };
-    match first_form(alloc, tokens) {
-        Ok(tree) => Ok(Parsed::Tree(tree)),
-        Err(ParseFault::At { .. }) => Ok(Parsed::Other),
-        Err(ParseFault::NoMemory) => Err(NoMemory),
+    form_laws();
+    match first_form(alloc, file)? {
+        Some(tree) => Ok(Parsed::Tree(tree)),
+        None => Ok(Parsed::Other),
     }
 }
 
@@ -117,7 +110,7 @@ fn not_built(alloc: Global) -> Report
 
 /// The report on a file that is refused for a fault at a byte.
 fn refused(alloc: Global, name: &str, text: &FileText, fault: Fault) -> Result<Report, AllocError>
-    ensures { IsFaultAt text.now fault.code fault.at → fault.at ≤ length text.now → IfOk result (λ report. IsRefusal name.now text.now report) }
+    ensures { IsFaultOf text.now fault.code fault.at → fault.at ≤ length text.now → IfOk result (λ report. IsRefusal name.now text.now report) }
 {
     let bytes = text.bytes();
     let position = line_of(bytes, fault.at.min(bytes.len()));

@@ -13,10 +13,9 @@ use crate::status::Status;
 use crate::words::{CommandLine, read_words};
 use cycle_analysis::headline;
 use finding_spans::Verdict;
-use first_form::tree_laws;
+use first_form::form_laws;
 use report_text::text;
-use st_lexer::cut_laws;
-use st_units::file_laws;
+use st_units::text_laws;
 use station_ports::outside::{FileRefusal, Files, NoMemory, Port, PutRefusal, Sink};
 use station_ports::steps::Steps;
 use station_ports::sure::{SureFiles, SureSink};
@@ -68,9 +67,8 @@ pub fn run<F: Files, S: Sink, L: Ledger>(
     ensures read_fault { result ≡ Status.ReadFault → Rose (F.view files.old).faults (F.view files.new).faults }
     ensures write_fault { result ≡ Status.WriteFault → Rose (S.view out.old).faults (S.view out.new).faults }
 {
-    cut_laws();
-    tree_laws();
-    file_laws();
+    text_laws();
+    form_laws();
     headline();
     one_report();
     match work(alloc, words, files, steps) {

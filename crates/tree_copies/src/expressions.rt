@@ -109,7 +109,10 @@ fn copy_argument(alloc: Global, tree: &Argument) -> Result<Argument, NoMemory>
 fn copy_path(alloc: Global, tree: &Path) -> Result<Path, NoMemory>
     ensures { IfOk result (λ t. t ≡ tree.now) }
 {
-    let (root, parts) = both(tree.root.copy(alloc), copy_parts(alloc, tree.parts.as_slice()))?;
+    let (root, parts) = both(
+        tree.root.copy(alloc),
+        copy_parts(alloc, tree.parts.as_slice()),
+    )?;
     Ok(Path {
         node: tree.node,
         root,

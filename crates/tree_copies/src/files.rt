@@ -149,10 +149,7 @@ impl Copied for ProgramLine {
 impl Copied for Tasks {
     fn copy(&self, alloc: Global) -> Result<Self, NoMemory> {
         let (tasks, lines) = both(self.tasks.copy(alloc), self.lines.copy(alloc))?;
-        Ok(Tasks {
-            tasks,
-            lines,
-        })
+        Ok(Tasks { tasks, lines })
     }
 }
 

@@ -2,6 +2,7 @@
 #![tactic(auto)]
 
 mod charts;
+mod code;
 mod copied;
 mod declarations;
 mod expressions;
@@ -9,4 +10,5 @@ mod files;
 mod results;
 mod statements;
 
+pub use code::{copy_code, copy_component, copy_task_code};
 pub use copied::Copied;

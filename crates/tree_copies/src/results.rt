@@ -34,10 +34,8 @@ pub(crate) fn four<A: Drop, B: Drop, C: Drop, D: Drop>(
     third: Result<C, NoMemory>,
     fourth: Result<D, NoMemory>,
 ) -> Result<(A, B, C, D), NoMemory>
-    ensures {
-        IfOk result (λ t.
-            (first ≡ Ok t.0) × (second ≡ Ok t.1) × (third ≡ Ok t.2) × (fourth ≡ Ok t.3))
-    }
+    ensures { IfOk result (λ t.
+        (first ≡ Ok t.0) × (second ≡ Ok t.1) × (third ≡ Ok t.2) × (fourth ≡ Ok t.3)) }
 {
     Ok((first?, second?, third?, fourth?))
 }

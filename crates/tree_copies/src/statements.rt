@@ -126,21 +126,18 @@ fn copy_branch(alloc: Global, tree: &Branch) -> Result<Branch, NoMemory>
         tree.condition.copy(alloc),
         copy_stmts(alloc, tree.body.as_slice()),
     )?;
-    Ok(Branch {
-        condition,
-        body,
-    })
+    Ok(Branch { condition, body })
 }
 
 #[cycle(statement)]
 fn copy_case(alloc: Global, tree: &Case) -> Result<Case, NoMemory>
     ensures { IfOk result (λ t. t ≡ tree.now) }
 {
-    let (labels, body) = both(tree.labels.copy(alloc), copy_stmts(alloc, tree.body.as_slice()))?;
-    Ok(Case {
-        labels,
-        body,
-    })
+    let (labels, body) = both(
+        tree.labels.copy(alloc),
+        copy_stmts(alloc, tree.body.as_slice()),
+    )?;
+    Ok(Case { labels, body })
 }
 
 #[cycle(statement)]
@@ -177,10 +174,7 @@ fn copy_cases(alloc: Global, trees: &[Case]) -> Result<Items<Case>, NoMemory>
 }
 
 #[cycle(statement)]
-fn copy_else(
-    alloc: Global,
-    trees: &Option<Items<Stmt>>,
-) -> Result<Option<Items<Stmt>>, NoMemory>
+fn copy_else(alloc: Global, trees: &Option<Items<Stmt>>) -> Result<Option<Items<Stmt>>, NoMemory>
     ensures { IfOk result (λ t. t ≡ trees.now) }
 {
     match trees {

@@ -10,7 +10,7 @@ use Rattle.token_grammar.specs.Input.{Parser, Reads, view}
 pub record Nests {A : Type 0} (parser : ℕ → Parser A) (nest : ℕ) (pre : Global → MutBor Cursor → ℕ
     → Type 0)
     (post : Global → MutBor Cursor → ℕ → Result A ParseError → MutBor Cursor
-        → Type 0) : Type 0 where
+    → Type 0) : Type 0 where
   pub callable : (alloc : Global) (old : MutBor Cursor) → pre alloc old nest
   pub reads : (alloc : Global) (old new : MutBor Cursor) (r : Result A ParseError)
       → post alloc old nest r new

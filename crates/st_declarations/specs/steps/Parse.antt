@@ -39,6 +39,22 @@ use Rattle.st_tree.specs.declared.file.ProgramLine.{ProgramLine}
 use Rattle.st_expr.specs.steps.Parse.{word, identifier, address, names, expression}
 use Rattle.st_declarations.specs.Trees.{make_elementary, make_range, make_type, make_enumeration, make_array, make_elements, make_structure, make_repeated, make_field_init, make_decl, make_section, make_globals, make_fields, make_struct, make_type_decl, make_types, make_parameter, make_task, make_line, tasks_of, make_resource, make_config}
 
+-- ---- lists
+
+unfoldable pub more : {A : Type 0} → Parser A → List A → Parser (List A)
+more one found = one >>= λ x. pure (found ++ x ∷ [])
+
+-- { one }, as long as a lexeme of the kind comes next
+unfoldable pub each : {A : Type 0} → TokenKind → Parser A → Parser (List A)
+each kind one = repeated (sees_in kind) (more one) []
+
+unfoldable pub more_behind : {A : Type 0} → Parser A → List A → Parser (List A)
+more_behind one found = take k.Comma >>= λ _. one >>= λ x. pure (found ++ x ∷ [])
+
+-- one { "," one }
+unfoldable pub commas : {A : Type 0} → Parser A → Parser (List A)
+commas one = one >>= λ x. repeated (sees_in k.Comma) (more_behind one) (x ∷ [])
+
 -- ---- types
 
 unfoldable pub elem_as : TokenKind → Elem → Parser TypeName
@@ -49,20 +65,20 @@ unfoldable pub unsigned_or_time : Parser TypeName
 unsigned_or_time = choose (sees_in k.Usint) (elem_as k.Usint e.Usint)
     (choose (sees_in k.Uint) (elem_as k.Uint e.Uint)
     (choose (sees_in k.Udint) (elem_as k.Udint e.Udint)
-        (choose (sees_in k.Ulint) (elem_as k.Ulint e.Ulint) (elem_as k.Time e.Time))))
+    (choose (sees_in k.Ulint) (elem_as k.Ulint e.Ulint) (elem_as k.Time e.Time))))
 
 unfoldable pub number_or_time : Parser TypeName
 number_or_time = choose (sees_in k.Sint) (elem_as k.Sint e.Sint)
     (choose (sees_in k.Int) (elem_as k.Int e.Int)
     (choose (sees_in k.Dint) (elem_as k.Dint e.Dint)
-        (choose (sees_in k.Lint) (elem_as k.Lint e.Lint) unsigned_or_time)))
+    (choose (sees_in k.Lint) (elem_as k.Lint e.Lint) unsigned_or_time)))
 
 unfoldable pub elementary : Parser TypeName
 elementary = choose (sees_in k.Bool) (elem_as k.Bool e.Bool)
     (choose (sees_in k.Byte) (elem_as k.Byte e.Byte)
     (choose (sees_in k.Word) (elem_as k.Word e.Word)
     (choose (sees_in k.Dword) (elem_as k.Dword e.Dword)
-        (choose (sees_in k.Lword) (elem_as k.Lword e.Lword) number_or_time))))
+    (choose (sees_in k.Lword) (elem_as k.Lword e.Lword) number_or_time))))
 
 -- typename = name | one of the 14 type names
 unfoldable pub typename : Parser TypeName
@@ -90,15 +106,9 @@ enumeration =
     node make_enumeration (scoped (enter k.OpenParenthesis >>= λ _. names >>= λ ns.
     take k.CloseParenthesis >>= λ _. pure ns))
 
-unfoldable pub more_ranges : List Range → Parser (List Range)
-more_ranges rs = take k.Comma >>= λ _. range >>= λ r. pure (rs ++ r ∷ [])
-
-unfoldable pub range_list : Parser (List Range)
-range_list = range >>= λ r. repeated (sees_in k.Comma) more_ranges (r ∷ [])
-
 -- "[" range { "," range } "]"
 unfoldable pub ranges : Parser (List Range)
-ranges = scoped (enter k.OpenBracket >>= λ _. range_list >>= λ rs. take k.CloseBracket >>= λ _.
+ranges = scoped (enter k.OpenBracket >>= λ _. commas range >>= λ rs. take k.CloseBracket >>= λ _.
     pure rs)
 
 -- ARRAY "[" range { "," range } "]" OF spec, in which ARRAY counts in the depth up to the end
@@ -134,15 +144,9 @@ module _ (inner : Parser Init) where
   one_item = choose (sees_two k.Number k.OpenParenthesis) repeated_item
       (inner >>= λ x. pure (item.One x))
 
-  unfoldable pub more_items : List Item → Parser (List Item)
-  more_items xs = take k.Comma >>= λ _. one_item >>= λ x. pure (xs ++ x ∷ [])
-
-  unfoldable pub item_list : Parser (List Item)
-  item_list = one_item >>= λ x. repeated (sees_in k.Comma) more_items (x ∷ [])
-
   -- "[" item { "," item } "]"
   unfoldable pub elements : Parser Init
-  elements = node make_elements (scoped (enter k.OpenBracket >>= λ _. item_list >>= λ xs.
+  elements = node make_elements (scoped (enter k.OpenBracket >>= λ _. commas one_item >>= λ xs.
       take k.CloseBracket >>= λ _. pure xs))
 
   -- name ":=" init
@@ -150,16 +154,10 @@ module _ (inner : Parser Init) where
   field_init = node make_field_init (identifier >>= λ i. take k.Becomes >>= λ _. inner >>= λ x.
       pure (i, x))
 
-  unfoldable pub more_field_inits : List FieldInit → Parser (List FieldInit)
-  more_field_inits xs = take k.Comma >>= λ _. field_init >>= λ x. pure (xs ++ x ∷ [])
-
-  unfoldable pub field_list : Parser (List FieldInit)
-  field_list = field_init >>= λ x. repeated (sees_in k.Comma) more_field_inits (x ∷ [])
-
   -- "(" name ":=" init { "," name ":=" init } ")"
   unfoldable pub structure : Parser Init
-  structure = node make_structure (scoped (enter k.OpenParenthesis >>= λ _. field_list >>= λ xs.
-      take k.CloseParenthesis >>= λ _. pure xs))
+  structure = node make_structure (scoped (enter k.OpenParenthesis >>= λ _.
+      commas field_init >>= λ xs. take k.CloseParenthesis >>= λ _. pure xs))
 
   -- init = expr | "[" item { "," item } "]" | "(" name ":=" init { "," name ":=" init } ")"
   unfoldable pub any_init : Parser Init
@@ -196,13 +194,6 @@ unfoldable pub decl : Parser Decl
 decl = node make_decl (names >>= λ ns. optional_address >>= λ a. take k.Colon >>= λ _. spec >>= λ s.
     optional_init >>= λ i. take k.Semicolon >>= λ _. pure (ns, a, s, i))
 
-unfoldable pub more_decls : List Decl → Parser (List Decl)
-more_decls ds = decl >>= λ x. pure (ds ++ x ∷ [])
-
--- { decl }
-unfoldable pub decls : Parser (List Decl)
-decls = repeated (sees_in k.Name) more_decls []
-
 -- keep = CONSTANT | RETAIN | NON_RETAIN
 unfoldable pub keep_as : TokenKind → Keep → Parser (Option Keep)
 keep_as kind x = take kind >>= λ _. pure (Some x)
@@ -221,9 +212,9 @@ unfoldable pub section_word : Parser SectionKind
 section_word = choose (sees_in k.Var) (section_as k.Var section_kind.Var)
     (choose (sees_in k.VarInput) (section_as k.VarInput section_kind.Input)
     (choose (sees_in k.VarOutput) (section_as k.VarOutput section_kind.Output)
-        (choose (sees_in k.VarInOut) (section_as k.VarInOut section_kind.InOut)
+    (choose (sees_in k.VarInOut) (section_as k.VarInOut section_kind.InOut)
     (choose (sees_in k.VarExternal) (section_as k.VarExternal section_kind.External)
-        (section_as k.VarTemp section_kind.Temp)))))
+    (section_as k.VarTemp section_kind.Temp)))))
 
 -- whether a section comes next
 unfoldable pub sees_section : List Lexeme → Bool
@@ -235,27 +226,17 @@ sees_section ts =
 -- section = ( VAR | VAR_INPUT | VAR_OUTPUT | VAR_IN_OUT | VAR_EXTERNAL | VAR_TEMP ) [ keep ] { decl
 -- } END_VAR
 unfoldable pub section : Parser Section
-section = node make_section (section_word >>= λ kind. keep >>= λ kp. decls >>= λ ds.
+section = node make_section (section_word >>= λ kind. keep >>= λ kp. each k.Name decl >>= λ ds.
     take k.EndVar >>= λ _. pure (kind, kp, ds))
-
-unfoldable pub more_sections : List Section → Parser (List Section)
-more_sections found = section >>= λ x. pure (found ++ x ∷ [])
 
 -- { section }
 unfoldable pub sections : Parser (List Section)
-sections = repeated sees_section more_sections []
+sections = repeated sees_section (more section) []
 
 -- globals = VAR_GLOBAL [ keep ] { decl } END_VAR
 unfoldable pub globals : Parser Globals
-globals = node make_globals (take k.VarGlobal >>= λ _. keep >>= λ kp. decls >>= λ ds.
+globals = node make_globals (take k.VarGlobal >>= λ _. keep >>= λ kp. each k.Name decl >>= λ ds.
     take k.EndVar >>= λ _. pure (kp, ds))
-
-unfoldable pub more_globals : List Globals → Parser (List Globals)
-more_globals found = globals >>= λ x. pure (found ++ x ∷ [])
-
--- { globals }
-unfoldable pub globals_list : Parser (List Globals)
-globals_list = repeated (sees_in k.VarGlobal) more_globals []
 
 -- ---- types of the user
 
@@ -264,16 +245,9 @@ unfoldable pub fields : Parser Fields
 fields = node make_fields (names >>= λ ns. take k.Colon >>= λ _. spec >>= λ s.
     optional_init >>= λ i. take k.Semicolon >>= λ _. pure (ns, s, i))
 
-unfoldable pub more_fields : List Fields → Parser (List Fields)
-more_fields found = fields >>= λ x. pure (found ++ x ∷ [])
-
--- { names ":" spec [ ":=" init ] ";" }
-unfoldable pub fields_list : Parser (List Fields)
-fields_list = repeated (sees_in k.Name) more_fields []
-
 -- struct = STRUCT { names ":" spec [ ":=" init ] ";" } END_STRUCT
 unfoldable pub struct_shape : Parser Shape
-struct_shape = node make_struct (take k.Struct >>= λ _. fields_list >>= λ found.
+struct_shape = node make_struct (take k.Struct >>= λ _. each k.Name fields >>= λ found.
     take k.EndStruct >>= λ _. pure found)
 
 unfoldable pub shape : Parser Shape
@@ -284,17 +258,10 @@ unfoldable pub type_decl : Parser TypeDecl
 type_decl = node make_type_decl (identifier >>= λ name. take k.Colon >>= λ _. shape >>= λ s.
     optional_init >>= λ i. take k.Semicolon >>= λ _. pure (name, s, i))
 
-unfoldable pub more_type_decls : List TypeDecl → Parser (List TypeDecl)
-more_type_decls found = type_decl >>= λ x. pure (found ++ x ∷ [])
-
--- { name ":" ( spec | struct ) [ ":=" init ] ";" }
-unfoldable pub type_decls : Parser (List TypeDecl)
-type_decls = repeated (sees_in k.Name) more_type_decls []
-
 -- types = TYPE { name ":" ( spec | struct ) [ ":=" init ] ";" } END_TYPE
 unfoldable pub types : Parser Types
-types = node make_types (take k.Type >>= λ _. type_decls >>= λ found. take k.EndType >>= λ _.
-    pure found)
+types = node make_types (take k.Type >>= λ _. each k.Name type_decl >>= λ found.
+    take k.EndType >>= λ _. pure found)
 
 -- ---- configurations
 
@@ -303,27 +270,15 @@ unfoldable pub parameter : Parser Parameter
 parameter = node make_parameter (identifier >>= λ name. take k.Becomes >>= λ _. expression >>= λ x.
     pure (name, x))
 
-unfoldable pub more_parameters : List Parameter → Parser (List Parameter)
-more_parameters found = take k.Comma >>= λ _. parameter >>= λ x. pure (found ++ x ∷ [])
-
-unfoldable pub parameter_list : Parser (List Parameter)
-parameter_list = parameter >>= λ x. repeated (sees_in k.Comma) more_parameters (x ∷ [])
-
 -- "(" name ":=" expr { "," name ":=" expr } ")"
 unfoldable pub parameters : Parser (List Parameter)
-parameters = scoped (enter k.OpenParenthesis >>= λ _. parameter_list >>= λ found.
+parameters = scoped (enter k.OpenParenthesis >>= λ _. commas parameter >>= λ found.
     take k.CloseParenthesis >>= λ _. pure found)
 
 -- TASK name "(" name ":=" expr { "," name ":=" expr } ")" ";"
 unfoldable pub task : Parser Task
 task = node make_task (take k.Task >>= λ _. identifier >>= λ name. parameters >>= λ found.
     take k.Semicolon >>= λ _. pure (name, found))
-
-unfoldable pub more_tasks : List Task → Parser (List Task)
-more_tasks found = task >>= λ x. pure (found ++ x ∷ [])
-
-unfoldable pub task_list : Parser (List Task)
-task_list = repeated (sees_in k.Task) more_tasks []
 
 -- WITH name
 unfoldable pub with_task : Parser (Option Identifier)
@@ -338,32 +293,21 @@ program_line = node make_line (take k.Program >>= λ _. identifier >>= λ name. 
     take k.Colon >>= λ _. identifier >>= λ program. take k.Semicolon >>= λ _.
     pure (name, t, program))
 
-unfoldable pub more_lines : List ProgramLine → Parser (List ProgramLine)
-more_lines found = program_line >>= λ x. pure (found ++ x ∷ [])
-
-unfoldable pub line_list : Parser (List ProgramLine)
-line_list = repeated (sees_in k.Program) more_lines []
-
 -- tasks = { TASK name "(" name ":=" expr { "," name ":=" expr } ")" ";" } { PROGRAM name [ WITH
 -- name ] ":" name ";" }
 unfoldable pub tasks : Parser Tasks
-tasks = task_list >>= λ found. line_list >>= λ lines. pure (tasks_of found lines)
+tasks = each k.Task task >>= λ found. each k.Program program_line >>= λ lines.
+    pure (tasks_of found lines)
 
 -- RESOURCE name ON name { globals } tasks END_RESOURCE
 unfoldable pub resource : Parser Resource
 resource = node make_resource (take k.Resource >>= λ _. identifier >>= λ name. take k.On >>= λ _.
-    identifier >>= λ kind. globals_list >>= λ gs. tasks >>= λ ts. take k.EndResource >>= λ _.
-    pure (name, kind, gs, ts))
-
-unfoldable pub more_resources : List Resource → Parser (List Resource)
-more_resources found = resource >>= λ x. pure (found ++ x ∷ [])
-
-unfoldable pub resources : Parser (List Resource)
-resources = repeated (sees_in k.Resource) more_resources []
+    identifier >>= λ kind. each k.VarGlobal globals >>= λ gs. tasks >>= λ ts.
+    take k.EndResource >>= λ _. pure (name, kind, gs, ts))
 
 -- config = CONFIGURATION name { globals } { RESOURCE name ON name { globals } tasks END_RESOURCE }
 -- tasks END_CONFIGURATION
 unfoldable pub config : Parser Config
 config = node make_config (take k.Configuration >>= λ _. identifier >>= λ name.
-    globals_list >>= λ gs. resources >>= λ rs. tasks >>= λ ts. take k.EndConfiguration >>= λ _.
-    pure (name, gs, rs, ts))
+    each k.VarGlobal globals >>= λ gs. each k.Resource resource >>= λ rs. tasks >>= λ ts.
+    take k.EndConfiguration >>= λ _. pure (name, gs, rs, ts))

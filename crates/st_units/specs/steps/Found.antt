@@ -41,13 +41,15 @@ input_from outer text tokens from =
 abbrev pub kept_behind : List Token → ℕ → ℕ
 kept_behind tokens from = length (filter is_kept (drop from tokens))
 
--- The number of the next token that is kept, or of tokens where none is left, behind those that were
+-- The number of the next token that is kept, or of tokens where none is left, behind those that
+-- were
 -- read from the number on.
 pub record IsBehind (tokens : List Token) (from : ℕ) (rest : List Lexeme) (to : ℕ) : Type 0 where
   pub later : from ≤ to
   pub within : to ≤ length tokens
   pub next : IsAtKept (drop to tokens)
-  pub count : kept_behind tokens from ≡ (kept_behind tokens from - length rest) + kept_behind tokens to
+  pub count : kept_behind tokens from ≡ (kept_behind tokens from - length rest) + kept_behind tokens
+      to
 
 -- The parser reads the value, or stops for the fault.
 abbrev pub FrontFound : {A : Type 0} → Parser A → ℕ → List ℕ → List Token → ℕ
@@ -59,7 +61,7 @@ FrontFound parser outer text tokens from (Ok read) =
 FrontFound parser outer text tokens from (Err fault) =
     (error : ParseError) × (rest : List Lexeme)
     × (error ≢ Memory →
-          parser (input_from outer text tokens from) ≡ Err (record { code = error; rest = rest }))
+    parser (input_from outer text tokens from) ≡ Err (record { code = error; rest = rest }))
     × (fault ≡ fault_of error (place_at text rest))
 
 -- the same in the words of the grammar

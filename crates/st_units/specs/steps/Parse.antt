@@ -15,7 +15,7 @@ use Rattle.st_tree.specs.declared.file.FilePart.TheVariants as part
 use Rattle.st_expr.specs.steps.Parse.{identifier}
 use Rattle.st_statements.specs.steps.Parse.{statements}
 use Rattle.sfc_text.specs.steps.Parse.{sfc}
-use Rattle.st_declarations.specs.steps.Parse.{typename, sections, types, globals, config}
+use Rattle.st_declarations.specs.steps.Parse.{more, typename, sections, types, globals, config}
 use Rattle.st_units.specs.Trees.{make_unit}
 
 -- body = sfc | statements
@@ -63,12 +63,9 @@ unfoldable pub sees_file_part : List Lexeme → Bool
 sees_file_part ts = sees_in k.Function ts || (sees_in k.FunctionBlock ts || (sees_in k.Program ts
     || (sees_in k.Type ts || (sees_in k.VarGlobal ts || sees_in k.Configuration ts))))
 
-unfoldable pub more_parts : List FilePart → Parser (List FilePart)
-more_parts found = file_part >>= λ x. pure (found ++ x ∷ [])
-
 -- { function | block | program | types | globals | config }
 unfoldable pub parts : Parser (List FilePart)
-parts = repeated sees_file_part more_parts []
+parts = repeated sees_file_part (more file_part) []
 
 -- nothing is left
 unfoldable pub ended_by : List Lexeme → Parser (Unit {0})

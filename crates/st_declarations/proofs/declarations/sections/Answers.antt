@@ -2,7 +2,7 @@ use Rattle.std.proofs.Common.{rules, arith}
 use Rattle.std.proofs.lemmas.Grind.{common_steps}
 use Rattle.token_grammar.specs.Input.{view, loop, repeated}
 use Rattle.token_grammar.proofs.Turns.{one_more, no_more}
-use Rattle.st_declarations.specs.steps.Parse.{sections, more_sections, sees_section}
+use Rattle.st_declarations.specs.steps.Parse.{sections, section, more, sees_section}
 use Rattle.st_declarations.proofs.declarations.sections.Goals as goal
 
 pub loop-turn-init : goal.loop-turn-init
@@ -12,23 +12,31 @@ loop-turn-init c = first_of (search rules, grind (arith, common_steps))
 pub returns-then-not-sees_section : goal.returns-then-not-sees_section
 unfolding loop
 returns-then-not-sees_section c =
-    let e = one_more (λ n. loop sees_section more_sections n c.loop-turn.found (view c.loop-turn.cursor)) _ c.loop-turn._turn c.loop-turn-test.true c.loop-turn.invariant in
+    let e = one_more
+    (λ n. loop sees_section (more section) n c.loop-turn.found (view c.loop-turn.cursor)) _
+    c.loop-turn._turn c.loop-turn-test.true c.loop-turn.invariant in
     first_of (search rules, grind (arith, common_steps))
 
-pub returns-in_err-more_sections : goal.returns-in_err-more_sections
+pub returns-in_err-more : goal.returns-in_err-more
 unfolding loop
-returns-in_err-more_sections c =
-    let e = one_more (λ n. loop sees_section more_sections n c.loop-turn.found (view c.loop-turn.cursor)) _ c.loop-turn._turn c.loop-turn-test.true c.loop-turn.invariant in
+returns-in_err-more c =
+    let e = one_more
+    (λ n. loop sees_section (more section) n c.loop-turn.found (view c.loop-turn.cursor)) _
+    c.loop-turn._turn c.loop-turn-test.true c.loop-turn.invariant in
     first_of (search rules, grind (arith, common_steps))
 
 pub loop-turn-preserved : goal.loop-turn-preserved
 unfolding loop
 loop-turn-preserved c =
-    let e = one_more (λ n. loop sees_section more_sections n c.loop-turn.found (view c.loop-turn.cursor)) _ c.loop-turn._turn c.loop-turn-test.true c.loop-turn.invariant in
+    let e = one_more
+    (λ n. loop sees_section (more section) n c.loop-turn.found (view c.loop-turn.cursor)) _
+    c.loop-turn._turn c.loop-turn-test.true c.loop-turn.invariant in
     first_of (search rules, grind (arith, common_steps))
 
 pub returns : goal.returns
 unfolding loop
 returns c =
-    let e = no_more (λ n. loop sees_section more_sections n c.loop-turn.found (view c.loop-turn.cursor)) _ c.loop-turn._turn c.loop-turn-test.false c.loop-turn.invariant in
+    let e = no_more
+    (λ n. loop sees_section (more section) n c.loop-turn.found (view c.loop-turn.cursor)) _
+    c.loop-turn._turn c.loop-turn-test.false c.loop-turn.invariant in
     first_of (search rules, grind (arith, common_steps))

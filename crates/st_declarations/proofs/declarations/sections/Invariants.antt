@@ -1,7 +1,8 @@
 use Rattle.std.proofs.Common.{◌≡◌, ◌-◌}
 use Rattle.token_grammar.specs.Input.{view, loop}
-use Rattle.st_declarations.specs.steps.Parse.{sections, more_sections, sees_section}
+use Rattle.st_declarations.specs.steps.Parse.{sections, section, more, sees_section}
 use Rattle.st_declarations.proofs.declarations.sections.Given as goal
 
 abbrev pub invariant-loop-turn : goal.invariant-loop-turn
-invariant-loop-turn l = sections (view l.fn.cursor) ≡ loop sees_section more_sections (l._turn-end - l._turn) l.found (view l.cursor)
+invariant-loop-turn l = sections (view l.fn.cursor)
+    ≡ loop sees_section (more section) (l._turn-end - l._turn) l.found (view l.cursor)

@@ -14,19 +14,22 @@ returns-in-Ok c =
     let text = c.args.tokens.text.now in
     λ all kept.
     let e : p.file (input 0 0 (words_of text all)) ≡ Ok (c.in-Ok.parts, view c.file.new.cursor) =
-        subst (λ (ts : List Token). p.file (input 0 0 (lexemes text ts)) ≡ Ok (c.in-Ok.parts, view c.file.new.cursor))
-            (c.as_slice.ensures.value ∙ kept) c.in-Ok.ensures in
+    subst (λ (ts : List Token). p.file (input 0 0 (lexemes text ts))
+    ≡ Ok (c.in-Ok.parts, view c.file.new.cursor))
+    (c.as_slice.ensures.value ∙ kept) c.in-Ok.ensures in
     answered (words_of text all) (Ok c.in-Ok.parts) (view c.file.new.cursor) e
 
-pub returns-in-Err : goal.returns-in-Err
-returns-in-Err c =
+pub returns : goal.returns
+returns c =
     let text = c.args.tokens.text.now in
     λ all kept.
     let rest = (view c.file.new.cursor).rest in
     let e : c.in-Err.error ≢ Memory →
-        p.file (input 0 0 (words_of text all)) ≡ Err (record { code = c.in-Err.error; rest = rest }) =
-        λ some. subst
-            (λ (ts : List Token). p.file (input 0 0 (lexemes text ts)) ≡ Err (record { code = c.in-Err.error; rest = rest }))
-            (c.as_slice.ensures.value ∙ kept) (c.in-Err.ensures some) in
+    p.file (input 0 0 (words_of text all))
+    ≡ Err (record { code = c.in-Err.error; rest = rest }) =
+    λ some. subst
+    (λ (ts : List Token). p.file (input 0 0 (lexemes text ts))
+    ≡ Err (record { code = c.in-Err.error; rest = rest }))
+    (c.as_slice.ensures.value ∙ kept) (c.in-Err.ensures some) in
     rw c.fault_at.ensures (refused text all c.in-Err.error rest
-        (answered (words_of text all) (Err c.in-Err.error) (view c.file.new.cursor) e))
+    (answered (words_of text all) (Err c.in-Err.error) (view c.file.new.cursor) e))

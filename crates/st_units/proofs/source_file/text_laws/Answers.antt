@@ -9,7 +9,8 @@ returns-clause-one_tree c = one_tree c.cut_laws.ensures.one_cut
 
 pub returns-clause-one_fault : goal.returns-clause-one_fault
 returns-clause-one_fault c =
-    one_text_fault c.cut_laws.ensures.one_cut c.cut_laws.ensures.one_fault c.cut_laws.ensures.not_both
+    one_text_fault c.cut_laws.ensures.one_cut c.cut_laws.ensures.one_fault
+    c.cut_laws.ensures.not_both
 
 pub returns-clause-not_both : goal.returns-clause-not_both
 returns-clause-not_both c = no_tree_and_fault c.cut_laws.ensures.one_cut c.cut_laws.ensures.not_both

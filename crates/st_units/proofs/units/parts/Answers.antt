@@ -2,7 +2,8 @@ use Rattle.std.proofs.Common.{rules, arith}
 use Rattle.std.proofs.lemmas.Grind.{common_steps}
 use Rattle.token_grammar.specs.Input.{view, loop, repeated}
 use Rattle.token_grammar.proofs.Turns.{one_more, no_more}
-use Rattle.st_units.specs.steps.Parse.{parts, more_parts, sees_file_part}
+use Rattle.st_units.specs.steps.Parse.{parts, file_part, sees_file_part}
+use Rattle.st_declarations.specs.steps.Parse.{more}
 use Rattle.st_units.proofs.units.parts.Goals as goal
 
 pub loop-turn-init : goal.loop-turn-init
@@ -12,23 +13,31 @@ loop-turn-init c = first_of (search rules, grind (arith, common_steps))
 pub returns-then-not-sees_file_part : goal.returns-then-not-sees_file_part
 unfolding loop
 returns-then-not-sees_file_part c =
-    let e = one_more (λ n. loop sees_file_part more_parts n c.loop-turn.found (view c.loop-turn.cursor)) _ c.loop-turn._turn c.loop-turn-test.true c.loop-turn.invariant in
+    let e = one_more
+    (λ n. loop sees_file_part (more file_part) n c.loop-turn.found (view c.loop-turn.cursor)) _
+    c.loop-turn._turn c.loop-turn-test.true c.loop-turn.invariant in
     first_of (search rules, grind (arith, common_steps))
 
-pub returns-in_err-more_parts : goal.returns-in_err-more_parts
+pub returns-in_err-more : goal.returns-in_err-more
 unfolding loop
-returns-in_err-more_parts c =
-    let e = one_more (λ n. loop sees_file_part more_parts n c.loop-turn.found (view c.loop-turn.cursor)) _ c.loop-turn._turn c.loop-turn-test.true c.loop-turn.invariant in
+returns-in_err-more c =
+    let e = one_more
+    (λ n. loop sees_file_part (more file_part) n c.loop-turn.found (view c.loop-turn.cursor)) _
+    c.loop-turn._turn c.loop-turn-test.true c.loop-turn.invariant in
     first_of (search rules, grind (arith, common_steps))
 
 pub loop-turn-preserved : goal.loop-turn-preserved
 unfolding loop
 loop-turn-preserved c =
-    let e = one_more (λ n. loop sees_file_part more_parts n c.loop-turn.found (view c.loop-turn.cursor)) _ c.loop-turn._turn c.loop-turn-test.true c.loop-turn.invariant in
+    let e = one_more
+    (λ n. loop sees_file_part (more file_part) n c.loop-turn.found (view c.loop-turn.cursor)) _
+    c.loop-turn._turn c.loop-turn-test.true c.loop-turn.invariant in
     first_of (search rules, grind (arith, common_steps))
 
 pub returns : goal.returns
 unfolding loop
 returns c =
-    let e = no_more (λ n. loop sees_file_part more_parts n c.loop-turn.found (view c.loop-turn.cursor)) _ c.loop-turn._turn c.loop-turn-test.false c.loop-turn.invariant in
+    let e = no_more
+    (λ n. loop sees_file_part (more file_part) n c.loop-turn.found (view c.loop-turn.cursor)) _
+    c.loop-turn._turn c.loop-turn-test.false c.loop-turn.invariant in
     first_of (search rules, grind (arith, common_steps))

@@ -1,7 +1,9 @@
 use Rattle.std.proofs.Common.{◌≡◌, ◌-◌}
 use Rattle.token_grammar.specs.Input.{view, loop}
-use Rattle.st_units.specs.steps.Parse.{parts, more_parts, sees_file_part}
+use Rattle.st_units.specs.steps.Parse.{parts, file_part, sees_file_part}
+use Rattle.st_declarations.specs.steps.Parse.{more}
 use Rattle.st_units.proofs.units.parts.Given as goal
 
 abbrev pub invariant-loop-turn : goal.invariant-loop-turn
-invariant-loop-turn l = parts (view l.fn.cursor) ≡ loop sees_file_part more_parts (l._turn-end - l._turn) l.found (view l.cursor)
+invariant-loop-turn l = parts (view l.fn.cursor)
+    ≡ loop sees_file_part (more file_part) (l._turn-end - l._turn) l.found (view l.cursor)

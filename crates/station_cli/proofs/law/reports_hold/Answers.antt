@@ -2,7 +2,11 @@ use Rattle.station_cli.proofs.Says.{reports_hold, free_holds}
 use Rattle.station_cli.proofs.law.reports_hold.Goals as goal
 
 pub returns-clause-all : goal.returns-clause-all
-returns-clause-all c = reports_hold c.headline.ensures.covered c.headline.ensures.steady c.cut_laws.ensures.one_cut c.cut_laws.ensures.not_both c.tree_laws.ensures.one c.file_laws.ensures.not_both
+returns-clause-all c =
+    reports_hold c.headline.ensures.covered c.headline.ensures.steady c.text_laws.ensures.one_tree
+    c.form_laws.ensures.one c.text_laws.ensures.not_both
 
 pub returns-clause-free : goal.returns-clause-free
-returns-clause-free c = free_holds c.headline.ensures.covered c.headline.ensures.steady c.cut_laws.ensures.one_cut c.cut_laws.ensures.not_both c.tree_laws.ensures.one c.file_laws.ensures.not_both
+returns-clause-free c =
+    free_holds c.headline.ensures.covered c.headline.ensures.steady c.text_laws.ensures.one_tree
+    c.form_laws.ensures.one c.text_laws.ensures.not_both

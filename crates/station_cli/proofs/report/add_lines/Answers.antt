@@ -2,7 +2,7 @@ use Rattle.std.proofs.Common.{◌≡◌, ◌∙◌, ◌++◌, length, ap, subst,
 use Rattle.std.proofs.lemmas.List.{length_push}
 use Rattle.std.proofs.lemmas.Slice.Zip.{zip_turn, zip_end}
 use Rattle.finding_spans.specs.declared.report.RangeLine.{RangeLine}
-use Rattle.station_cli.specs.Lines.{lines_of}
+use Rattle.station_cli.specs.steps.Lines.{lines_of}
 use Rattle.station_cli.proofs.RangeLines.{line_pushed, lines_whole}
 use Rattle.station_cli.proofs.report.add_lines.Goals as goal
 

@@ -1,6 +1,6 @@
 -- The lines so far are those of the cells so far.
 use Rattle.std.proofs.Common.{◌≡◌, ◌++◌, length, take}
-use Rattle.station_cli.specs.Lines.{lines_of}
+use Rattle.station_cli.specs.steps.Lines.{lines_of}
 use Rattle.station_cli.proofs.report.add_lines.Given as goal
 
 abbrev pub invariant-loop-cell : goal.invariant-loop-cell

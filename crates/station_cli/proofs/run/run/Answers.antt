@@ -36,20 +36,20 @@ returns-in-Err-clause-above g c =
     c.write_no_memory.ensures
 
 pub returns-in-Ok-clause-free : goal.returns-in-Ok-clause-free
-returns-in-Ok-clause-free g c = free_says c.headline.ensures.covered c.headline.ensures.steady c.cut_laws.ensures.one_cut c.tree_laws.ensures.one (map string_bytes c.args.words.now) c.in-Ok.ensures.work (rw c.deref.ensures.value at c.write_line.ensures)
+returns-in-Ok-clause-free g c = free_says c.headline.ensures.covered c.headline.ensures.steady c.text_laws.ensures.one_tree c.form_laws.ensures.one (map string_bytes c.args.words.now) c.in-Ok.ensures.work (rw c.deref.ensures.value at c.write_line.ensures)
 
 pub returns-in-Ok-clause-alarms : goal.returns-in-Ok-clause-alarms
-returns-in-Ok-clause-alarms g c = alarms_say c.headline.ensures.covered c.headline.ensures.steady c.cut_laws.ensures.one_cut c.tree_laws.ensures.one (map string_bytes c.args.words.now) c.in-Ok.ensures.work (rw c.deref.ensures.value at c.write_line.ensures)
+returns-in-Ok-clause-alarms g c = alarms_say c.headline.ensures.covered c.headline.ensures.steady c.text_laws.ensures.one_tree c.form_laws.ensures.one (map string_bytes c.args.words.now) c.in-Ok.ensures.work (rw c.deref.ensures.value at c.write_line.ensures)
 
 pub returns-in-Err-clause-free : goal.returns-in-Err-clause-free
 returns-in-Err-clause-free g c =
-    free_says c.headline.ensures.covered c.headline.ensures.steady c.cut_laws.ensures.one_cut c.tree_laws.ensures.one (map string_bytes c.args.words.now) {old = record { files = g.F.Files.view c.args.files.now }} {new = record { files = g.F.Files.view c.work.new.files }}
+    free_says c.headline.ensures.covered c.headline.ensures.steady c.text_laws.ensures.one_tree c.form_laws.ensures.one (map string_bytes c.args.words.now) {old = record { files = g.F.Files.view c.args.files.now }} {new = record { files = g.F.Files.view c.work.new.files }}
     (record { course = out_of_memory; cause = c.work.ensures.calls; status_is = refl; text_is = refl })
     c.write_no_memory.ensures
 
 pub returns-in-Err-clause-alarms : goal.returns-in-Err-clause-alarms
 returns-in-Err-clause-alarms g c =
-    alarms_say c.headline.ensures.covered c.headline.ensures.steady c.cut_laws.ensures.one_cut c.tree_laws.ensures.one (map string_bytes c.args.words.now) {old = record { files = g.F.Files.view c.args.files.now }} {new = record { files = g.F.Files.view c.work.new.files }}
+    alarms_say c.headline.ensures.covered c.headline.ensures.steady c.text_laws.ensures.one_tree c.form_laws.ensures.one (map string_bytes c.args.words.now) {old = record { files = g.F.Files.view c.args.files.now }} {new = record { files = g.F.Files.view c.work.new.files }}
     (record { course = out_of_memory; cause = c.work.ensures.calls; status_is = refl; text_is = refl })
     c.write_no_memory.ensures
 
@@ -64,22 +64,22 @@ returns-in-Err-clause-reported g c =
 
 pub returns-in-Ok-clause-clean : goal.returns-in-Ok-clause-clean
 returns-in-Ok-clause-clean g c = λ e.
-    reported_safe c.headline.ensures.covered c.headline.ensures.steady c.cut_laws.ensures.one_cut c.cut_laws.ensures.not_both c.tree_laws.ensures.one c.file_laws.ensures.not_both (map string_bytes c.args.words.now) _
+    reported_safe c.headline.ensures.covered c.headline.ensures.steady c.text_laws.ensures.one_tree c.form_laws.ensures.one c.text_laws.ensures.not_both (map string_bytes c.args.words.now) _
     (status_reported (map string_bytes c.args.words.now) c.in-Ok.ensures.work (rw c.deref.ensures.value at c.write_line.ensures) Clean e refl)
 
 pub returns-in-Err-clause-clean : goal.returns-in-Err-clause-clean
 returns-in-Err-clause-clean g c = λ e.
-    reported_safe c.headline.ensures.covered c.headline.ensures.steady c.cut_laws.ensures.one_cut c.cut_laws.ensures.not_both c.tree_laws.ensures.one c.file_laws.ensures.not_both (map string_bytes c.args.words.now) _
+    reported_safe c.headline.ensures.covered c.headline.ensures.steady c.text_laws.ensures.one_tree c.form_laws.ensures.one c.text_laws.ensures.not_both (map string_bytes c.args.words.now) _
     (status_reported (map string_bytes c.args.words.now) {old = record { files = g.F.Files.view c.args.files.now }} {new = record { files = g.F.Files.view c.work.new.files }} (record { course = out_of_memory; cause = c.work.ensures.calls; status_is = refl; text_is = refl }) c.write_no_memory.ensures Clean e refl)
 
 pub returns-in-Ok-clause-open : goal.returns-in-Ok-clause-open
 returns-in-Ok-clause-open g c = λ e.
-    reported_covered c.headline.ensures.covered c.headline.ensures.steady c.cut_laws.ensures.one_cut c.cut_laws.ensures.not_both c.tree_laws.ensures.one c.file_laws.ensures.not_both (map string_bytes c.args.words.now) _
+    reported_covered c.headline.ensures.covered c.headline.ensures.steady c.text_laws.ensures.one_tree c.form_laws.ensures.one c.text_laws.ensures.not_both (map string_bytes c.args.words.now) _
     (status_reported (map string_bytes c.args.words.now) c.in-Ok.ensures.work (rw c.deref.ensures.value at c.write_line.ensures) Open e refl)
 
 pub returns-in-Err-clause-open : goal.returns-in-Err-clause-open
 returns-in-Err-clause-open g c = λ e.
-    reported_covered c.headline.ensures.covered c.headline.ensures.steady c.cut_laws.ensures.one_cut c.cut_laws.ensures.not_both c.tree_laws.ensures.one c.file_laws.ensures.not_both (map string_bytes c.args.words.now) _
+    reported_covered c.headline.ensures.covered c.headline.ensures.steady c.text_laws.ensures.one_tree c.form_laws.ensures.one c.text_laws.ensures.not_both (map string_bytes c.args.words.now) _
     (status_reported (map string_bytes c.args.words.now) {old = record { files = g.F.Files.view c.args.files.now }} {new = record { files = g.F.Files.view c.work.new.files }} (record { course = out_of_memory; cause = c.work.ensures.calls; status_is = refl; text_is = refl }) c.write_no_memory.ensures Open e refl)
 
 pub returns-in-Ok-clause-refused : goal.returns-in-Ok-clause-refused

@@ -1,0 +1,3 @@
+-- How a code is turned round: steps.
+pub mod CodeCopies
+pub mod steps
