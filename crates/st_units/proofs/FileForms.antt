@@ -7,7 +7,7 @@ use Rattle.token_grammar.specs.declared.fault.ParseError.{ParseError}
 use Rattle.token_grammar.specs.declared.fault.ParseError.TheVariants as cause
 use Rattle.token_grammar.specs.Texts.{Lexeme}
 use Rattle.token_grammar.specs.Input.{Input, Stop, Outcome, Parser, and_then, pure, Reads}
-use Rattle.token_grammar.specs.Grammar.{Word, Rule, lexemes_of, Begins, Stops, Spells, SpellsFront, IsFault, IsTooDeep}
+use Rattle.token_grammar.specs.Grammar.{Word, Rule, lexemes_of, Begins, Stops, Spells, SpellsFront, IsGrammarFault, IsTooDeep}
 use Rattle.token_grammar.proofs.Laws.{Told, Reason, input, Exact}
 use Rattle.token_grammar.proofs.Front.{spells, is_fault, is_too_deep}
 use Rattle.token_grammar.proofs.OneFront.{begins_first}
@@ -32,7 +32,7 @@ unspelled_by : {A : Type 0} (L : Rule A) (ts front rest : List Lexeme) → ts �
 unspelled_by L ts front [] tokens stops at_end w x e l eq = at_end refl w x e l eq
 unspelled_by L ts front (t ∷ r) tokens stops at_end w x e l eq = stopped_whole L front t r stops w x e l (sym tokens ∙ eq)
 
-broken_fault : {A : Type 0} (L : Rule A) (ts rest : List Lexeme) → IsFault L 0 ts rest → IsBroken L ts rest
+broken_fault : {A : Type 0} (L : Rule A) (ts rest : List Lexeme) → IsGrammarFault L 0 ts rest → IsBroken L ts rest
 broken_fault L ts rest h = record {
   word = h.word;
   more = h.more;

@@ -9,7 +9,7 @@ use Rattle.token_grammar.specs.declared.fault.ParseError.{ParseError}
 use Rattle.token_grammar.specs.declared.fault.ParseError.TheVariants as error
 use Rattle.token_grammar.specs.Texts.{Lexeme}
 use Rattle.token_grammar.specs.Kept.{is_kept, words_of, place_at}
-use Rattle.token_grammar.specs.Grammar.{Rule, max_depth, SpellsFront, IsFault, IsTooDeep}
+use Rattle.token_grammar.specs.Grammar.{Rule, max_depth, SpellsFront, IsGrammarFault, IsTooDeep}
 use Rattle.st_units.specs.declared.fronts.ParseFault.{ParseFault}
 use Rattle.st_units.specs.declared.fronts.ParseFault.TheVariants.{At, NoMemory}
 
@@ -33,7 +33,7 @@ pub record IsFront {A : Type 0} (L : Rule A) (outer : ℕ) (text : List ℕ) (to
 -- Up to the rest the lexemes begin the rule, none of them too deep. With the next one they no longer do, and up to it they spell nothing; or
 -- they still do, and that one stands too deep.
 abbrev pub IsCause : {A : Type 0} → Rule A → ℕ → List Lexeme → List Lexeme → FaultCode → Type 0
-IsCause L outer words rest fault.Grammar = IsFault L outer words rest
+IsCause L outer words rest fault.Grammar = IsGrammarFault L outer words rest
 IsCause L outer words rest fault.TooDeep = IsTooDeep L outer words rest
 IsCause L outer words rest other = ⊥
 

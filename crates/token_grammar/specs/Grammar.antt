@@ -127,7 +127,7 @@ pub record SpellsFront {A : Type 0} (L : Rule A) (d : ℕ) (ts : List Lexeme) (x
 
 -- The lexemes up to the rest begin the rule, none of them too deep, and with the next one they
 -- don't.
-pub record IsFault {A : Type 0} (L : Rule A) (d : ℕ) (ts rest : List Lexeme) : Type 0 where
+pub record IsGrammarFault {A : Type 0} (L : Rule A) (d : ℕ) (ts rest : List Lexeme) : Type 0 where
   pub word : Word
   pub more : Word
   pub value : A
