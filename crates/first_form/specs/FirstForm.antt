@@ -19,7 +19,7 @@ use Rattle.token_grammar.specs.declared.token.Token.{Token}
 use Rattle.token_grammar.specs.Texts.{Lexeme, name_of, number_of}
 use Rattle.token_grammar.specs.Kept.{words_of, place_at}
 use Rattle.token_grammar.specs.Kinds.{is_kind}
-use Rattle.token_grammar.specs.Grammar.{Rule, give, token, token_that, ◌>>=◌, ◌or◌, many, node, Spells, IsLongest}
+use Rattle.token_grammar.specs.Grammar.{Rule, give, token, token_that, ◌>>=◌, ◌or◌, many, node, Spells, IsLongestFront}
 use Rattle.first_form.specs.declared.tree.Identifier.{Identifier}
 use Rattle.first_form.specs.declared.tree.Path.{Path}
 use Rattle.first_form.specs.declared.tree.Literal.{Literal}
@@ -222,5 +222,5 @@ pub record IsTree (text : List ℕ) (tokens : List Token) (tree : SourceTree) : 
 pub record IsRefused (text : List ℕ) (tokens : List Token) (at : ℕ) : Type 0 where
   pub unspelled : (tree : SourceTree) → IsTree text tokens tree → ⊥
   pub rest : List Lexeme
-  pub longest : IsLongest program (words_of text tokens) rest
+  pub longest : IsLongestFront program (words_of text tokens) rest
   pub place : at ≡ place_at text rest

@@ -3,7 +3,7 @@ use Rattle.std.proofs.Common.{◌≡◌, ℕ, zero, suc, ◌≤◌, Bool, false,
 use Rattle.std.proofs.lemmas.List.{append-nil, append_cancel_right}
 use Rattle.token_grammar.specs.Texts.{Lexeme}
 use Rattle.token_grammar.specs.Input.{Input, Outcome, Parser}
-use Rattle.token_grammar.specs.Grammar.{Word, Rule, lexemes_of, Begins, Stops, Spells, IsLongest, SpellsFront, IsGrammarFault, IsTooDeep, IsWrong}
+use Rattle.token_grammar.specs.Grammar.{Word, Rule, lexemes_of, Begins, Stops, Spells, IsLongestFront, SpellsFront, IsGrammarFault, IsTooDeep, IsWrong}
 use Rattle.token_grammar.proofs.Laws.{input, Told, Exact, Some_}
 use Rattle.token_grammar.proofs.Front.{one_value}
 use Rattle.token_grammar.proofs.OneFront.{begins_first, one_rest}
@@ -47,7 +47,7 @@ module _ {A : Type 0} (L : Rule A) (d : ℕ) where
   deep_start : (ts rest : List Lexeme) → IsTooDeep L d ts rest → IsTooDeep (at_start d L) 0 ts rest
   deep_start ts rest a = record { word = a.word; next = a.next; more = a.more; value = a.value; depth = a.depth; after = a.after; tokens = a.tokens; there = a.there; begun = a.begun; within = a.within; deep = a.deep }
 
-  longest_front : (ts : List Lexeme) (x : A) (rest : List Lexeme) → SpellsFront L d ts x rest → IsLongest (at_start d L) ts rest
+  longest_front : (ts : List Lexeme) (x : A) (rest : List Lexeme) → SpellsFront L d ts x rest → IsLongestFront (at_start d L) ts rest
   longest_front ts x rest s = record {
     front = lexemes_of s.word;
     tokens = s.tokens;
@@ -55,7 +55,7 @@ module _ {A : Type 0} (L : Rule A) (d : ℕ) where
     stops = stops_start (lexemes_of s.word) rest s.longest;
   }
 
-  longest_fault : (ts rest : List Lexeme) → IsGrammarFault L d ts rest → IsLongest (at_start d L) ts rest
+  longest_fault : (ts rest : List Lexeme) → IsGrammarFault L d ts rest → IsLongestFront (at_start d L) ts rest
   longest_fault ts rest f = record {
     front = lexemes_of f.word;
     tokens = f.tokens;
