@@ -1,0 +1,15 @@
+mod Gathering
+mod ExpressionLists
+mod StatementLists
+mod DeclarationLists
+mod ChartLists
+mod UnitLists
+mod Lists
+mod NodesOfWords
+mod NodeInstances
+mod FileInstances
+mod TokenPlaces
+mod Merging
+mod InOrder
+mod LayerLists
+mod PartsInOrder
