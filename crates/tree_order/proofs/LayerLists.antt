@@ -1,5 +1,7 @@
--- What is gathered of a tree is what is gathered of its node, of the text of its token, and of the trees directly within it.
-use Rattle.std.proofs.Common.{◌≡◌, ℕ, List, [], ◌∷◌, ◌++◌, map, Option, Some, None, append_assoc, refl, sym, ap, subst, ◌∙◌}
+-- What is gathered of a tree is what is gathered of its node, of the text of its token, and of the
+-- trees directly within it.
+use Rattle.std.proofs.Common.{◌≡◌, ℕ, List, [], ◌∷◌, ◌++◌, map, Option, Some, None}
+use Rattle.std.proofs.Common.{refl, sym, ap, ◌∙◌}
 use Rattle.std.specs.Prelude.{flat_map}
 use Rattle.std.proofs.lemmas.List.{append-nil}
 use Rattle.std.proofs.lemmas.List.Folds.{flat_map-map}
@@ -8,7 +10,6 @@ use denote.Hole.Carrier
 use Rattle.token_grammar.specs.declared.token.TokenKind.{TokenKind}
 use Rattle.token_grammar.specs.declared.token.TokenKind.TheVariants as k
 use Rattle.token_grammar.specs.Grammar.{Word}
-use Rattle.st_tree.specs.declared.node.Node.{Node}
 use Rattle.st_tree.specs.declared.expression.Root.{Root}
 use Rattle.st_tree.specs.declared.expression.Root.TheVariants as roots
 use Rattle.st_tree.specs.declared.statement.Point.{Point}
@@ -56,13 +57,20 @@ use Rattle.st_tree.specs.declared.expression.Path.{Path, is-Path'}
 use Rattle.tree_order.specs.Subtrees.{Tree, Layer, layer_of, expr_layer, part_layer}
 use Rattle.tree_order.specs.Subtrees as t
 use Rattle.tree_order.proofs.Gathering.{Gathering}
-use Rattle.tree_order.proofs.ExpressionLists.{ExprLists, of_identifier, of_address, of_root, list_if}
-use Rattle.tree_order.proofs.StatementLists.{StmtLists, of_point, of_label, of_stmt_argument, of_counter}
-use Rattle.tree_order.proofs.DeclarationLists.{DeclLists, of_type_name, of_range, of_decl, of_section, of_globals, of_fields, of_shape, of_type_decl, of_types, of_parameter, of_task, of_program_line, of_tasks, of_resource, of_config}
-use Rattle.tree_order.proofs.ChartLists.{of_association, of_step, of_step_names, of_transition, of_action, of_sfc_part, of_sfc}
+use Rattle.tree_order.proofs.ExpressionLists.{ExprLists, of_identifier, of_address, of_root}
+use Rattle.tree_order.proofs.ExpressionLists.{list_if}
+use Rattle.tree_order.proofs.StatementLists.{StmtLists, of_point, of_label, of_stmt_argument}
+use Rattle.tree_order.proofs.StatementLists.{of_counter}
+use Rattle.tree_order.proofs.DeclarationLists.{DeclLists, of_type_name, of_range, of_decl}
+use Rattle.tree_order.proofs.DeclarationLists.{of_section, of_globals, of_fields, of_shape}
+use Rattle.tree_order.proofs.DeclarationLists.{of_type_decl, of_types, of_parameter, of_task}
+use Rattle.tree_order.proofs.DeclarationLists.{of_program_line, of_tasks, of_resource, of_config}
+use Rattle.tree_order.proofs.ChartLists.{of_association, of_step, of_step_names, of_transition}
+use Rattle.tree_order.proofs.ChartLists.{of_action, of_sfc_part, of_sfc}
 use Rattle.tree_order.proofs.UnitLists.{of_unit_kind, of_body, of_unit, of_file_part}
 
-module _ {M : Type 0} {P : Word → List M → Type 0} {G : Gathering P} {E : ExprLists G} (S : StmtLists E) (D : DeclLists E) where
+module _ {M : Type 0} {P : Word → List M → Type 0} {G : Gathering P} {E : ExprLists G}
+    (S : StmtLists E) (D : DeclLists E) where
   abbrev pub of_any : Tree → List M
   of_any (t.identifier x) = of_identifier G x
   of_any (t.address x) = of_address G x
@@ -117,10 +125,12 @@ module _ {M : Type 0} {P : Word → List M → Type 0} {G : Gathering P} {E : Ex
   of_layer l = list_if G.own l.node ++ (of_text l.text ++ flat_map of_any l.parts)
 
   -- the trees of a list
-  these : {A : Type 0} (make : A → Tree) (xs : List A) → flat_map of_any (map make xs) ≡ flat_map (λ x. of_any (make x)) xs
+  these : {A : Type 0} (make : A → Tree) (xs : List A) → flat_map of_any (map make xs)
+      ≡ flat_map (λ x. of_any (make x)) xs
   these make xs = flat_map-map of_any make xs
 
-  expr_rolled : (y : Expr-F Expr Part Argument Path) → E.of_expr (roll-Expr y) ≡ of_layer (expr_layer y)
+  expr_rolled : (y : Expr-F Expr Part Argument Path) → E.of_expr (roll-Expr y)
+      ≡ of_layer (expr_layer y)
   unfolding roll-Expr Carrier.roll
   expr_rolled (Expr-F.Number node minus text) = E.number node minus text ∙ simp append-nil refl
   expr_rolled (Expr-F.Typed node text) = E.typed node text ∙ simp append-nil refl
@@ -129,16 +139,21 @@ module _ {M : Type 0} {P : Word → List M → Type 0} {G : Gathering P} {E : Ex
   expr_rolled (Expr-F.Path p) = E.path p ∙ sym (append-nil (E.of_path p))
   expr_rolled (Expr-F.Value node name value) = E.value node name value ∙ simp append-nil refl
   expr_rolled (Expr-F.Parenthesized node inner) = E.parenthesized node inner ∙ simp append-nil refl
-  expr_rolled (Expr-F.Unary node operator operand) = E.unary node operator operand ∙ simp append-nil refl
-  expr_rolled (Expr-F.Binary node operator left right) = E.binary node operator left right ∙ simp append-nil refl
-  expr_rolled (Expr-F.Call node name arguments) = E.call node name arguments ∙ rw (these t.argument arguments) refl
+  expr_rolled (Expr-F.Unary node operator operand) =
+      E.unary node operator operand ∙ simp append-nil refl
+  expr_rolled (Expr-F.Binary node operator left right) =
+      E.binary node operator left right ∙ simp append-nil refl
+  expr_rolled (Expr-F.Call node name arguments) =
+      E.call node name arguments ∙ rw (these t.argument arguments) refl
 
   -- what may be there
-  there_if : {A : Type 0} (make : A → Tree) (o : Option A) → flat_map of_any (t.if_there make o) ≡ list_if (λ x. of_any (make x)) o
+  there_if : {A : Type 0} (make : A → Tree) (o : Option A) → flat_map of_any (t.if_there make o)
+      ≡ list_if (λ x. of_any (make x)) o
   there_if make None = refl
   there_if make (Some x) = append-nil (of_any (make x))
 
-  there_stmts : (o : Option (List Stmt)) → flat_map of_any (t.stmts_if o) ≡ list_if (flat_map S.of_stmt) o
+  there_stmts : (o : Option (List Stmt)) → flat_map of_any (t.stmts_if o)
+      ≡ list_if (flat_map S.of_stmt) o
   there_stmts None = refl
   there_stmts (Some found) = these t.stmt found
 
@@ -150,17 +165,25 @@ module _ {M : Type 0} {P : Word → List M → Type 0} {G : Gathering P} {E : Ex
   root_is (roots.Name i) = sym (append-nil (of_identifier G i))
   root_is (roots.Address a) = sym (append-nil (of_address G a))
 
-  part_rolled : (y : Part-F Expr Part Argument Path) → E.of_part (roll-Part y) ≡ of_layer (part_layer y)
+  part_rolled : (y : Part-F Expr Part Argument Path) → E.of_part (roll-Part y)
+      ≡ of_layer (part_layer y)
   unfolding roll-Part Carrier.roll
   part_rolled (Part-F.Field name) = E.field name ∙ sym (append-nil (of_identifier G name))
   part_rolled (Part-F.Index node indices) = E.index node indices ∙ rw (these t.expr indices) refl
 
   argument_is : (x : Argument) → E.of_argument x ≡ of_layer (t.argument_layer x)
   argument_is x = ap E.of_argument (is-Argument' x) ∙ E.argument x.node x.name x.value
-      ∙ rw (two (t.if_there t.identifier x.name) (t.expr x.value ∷ []), there_if t.identifier x.name, append-nil (E.of_expr x.value)) refl
+      ∙ rw (
+        two (t.if_there t.identifier x.name) (t.expr x.value ∷ []),
+        there_if t.identifier
+            x.name,
+        append-nil (E.of_expr x.value),
+      ) refl
 
   path_is : (x : Path) → E.of_path x ≡ of_layer (t.path_layer x)
-  path_is x = ap E.of_path (is-Path' x) ∙ E.whole_path x.node x.root x.parts ∙ rw (these t.part x.parts) refl
+  path_is x =
+      ap E.of_path (is-Path' x) ∙ E.whole_path x.node x.root x.parts ∙ rw (these t.part x.parts)
+      refl
 
   -- ---- statements
 
@@ -183,21 +206,47 @@ module _ {M : Type 0} {P : Word → List M → Type 0} {G : Gathering P} {E : Ex
   stmt_rolled : (y : Stmt-F Stmt Branch Case) → S.of_stmt (roll-Stmt y) ≡ of_layer (t.stmt_layer y)
   unfolding roll-Stmt Carrier.roll
   stmt_rolled (Stmt-F.Assign node target value) = S.assign node target value ∙ simp append-nil refl
-  stmt_rolled (Stmt-F.Call node name arguments) = S.call node name arguments ∙ rw (these t.stmt_argument arguments) refl
+  stmt_rolled (Stmt-F.Call node name arguments) =
+      S.call node name arguments ∙ rw (these t.stmt_argument arguments) refl
   stmt_rolled (Stmt-F.Return node) = S.return_ node
   stmt_rolled (Stmt-F.Exit node) = S.exit node
   stmt_rolled (Stmt-F.Continue node) = S.continue node
-  stmt_rolled (Stmt-F.If node branches otherwise) = S.if_ node branches otherwise ∙ rw (two (map t.branch branches) (t.stmts_if otherwise), these t.branch branches, there_stmts otherwise) refl
-  stmt_rolled (Stmt-F.Case node selector cases otherwise) = S.case_ node selector cases otherwise ∙ rw (two (map t.one_case cases) (t.stmts_if otherwise), these t.one_case cases, there_stmts otherwise) refl
-  stmt_rolled (Stmt-F.For node counts found) = S.for_ node counts found ∙ rw (these t.stmt found) refl
-  stmt_rolled (Stmt-F.While node condition found) = S.while_ node condition found ∙ rw (these t.stmt found) refl
-  stmt_rolled (Stmt-F.Repeat node found condition) = S.repeat_ node found condition ∙ rw (two (map t.stmt found) (t.expr condition ∷ []), these t.stmt found, append-nil (E.of_expr condition)) refl
+  stmt_rolled (Stmt-F.If node branches otherwise) =
+      S.if_ node branches otherwise ∙ rw (
+        two (map t.branch branches) (t.stmts_if otherwise),
+        these t.branch branches,
+        there_stmts otherwise,
+      ) refl
+  stmt_rolled (Stmt-F.Case node selector cases otherwise) =
+      S.case_ node selector cases otherwise ∙ rw (
+        two (map t.one_case cases) (t.stmts_if otherwise),
+        these t.one_case cases,
+        there_stmts otherwise,
+      ) refl
+  stmt_rolled (Stmt-F.For node counts found) =
+      S.for_ node counts found ∙ rw (these t.stmt found) refl
+  stmt_rolled (Stmt-F.While node condition found) =
+      S.while_ node condition found ∙ rw (these t.stmt found) refl
+  stmt_rolled (Stmt-F.Repeat node found condition) =
+      S.repeat_ node found condition ∙ rw (
+        two (map t.stmt found) (t.expr condition ∷ []),
+        these t.stmt found,
+        append-nil (E.of_expr condition),
+      ) refl
 
   branch_is : (x : Branch) → S.of_branch x ≡ of_layer (t.branch_layer x)
-  branch_is x = ap S.of_branch (is-Branch' x) ∙ S.branch x.condition x.body ∙ rw (these t.stmt x.body) refl
+  branch_is x =
+      ap S.of_branch (is-Branch' x) ∙ S.branch x.condition x.body ∙ rw (these t.stmt x.body) refl
 
   case_is : (x : Case) → S.of_case x ≡ of_layer (t.case_layer x)
-  case_is x = ap S.of_case (is-Case' x) ∙ S.one_case x.labels x.body ∙ rw (two (map t.label x.labels) (map t.stmt x.body), these t.label x.labels, these t.stmt x.body) refl
+  case_is x =
+      ap S.of_case (is-Case' x) ∙ S.one_case x.labels x.body
+      ∙ rw (
+        two (map t.label x.labels) (map t.stmt x.body),
+        these t.label x.labels,
+        these t.stmt
+            x.body,
+      ) refl
 
   -- ---- declarations
 
@@ -207,30 +256,52 @@ module _ {M : Type 0} {P : Word → List M → Type 0} {G : Gathering P} {E : Ex
 
   spec_rolled : (y : Spec-F Spec) → D.of_spec (roll-Spec y) ≡ of_layer (t.spec_layer y)
   unfolding roll-Spec Carrier.roll
-  spec_rolled (Spec-F.«Type» node name limits) = D.type_ node name limits ∙ rw (there_if t.range limits) refl
-  spec_rolled (Spec-F.Enumeration node values) = D.enumeration node values ∙ rw (these t.identifier values) refl
-  spec_rolled (Spec-F.Array node ranges element) = D.array node ranges element ∙ rw (two (map t.range ranges) (t.spec element ∷ []), these t.range ranges, append-nil (D.of_spec element)) refl
+  spec_rolled (Spec-F.«Type» node name limits) =
+      D.type_ node name limits ∙ rw (there_if t.range limits) refl
+  spec_rolled (Spec-F.Enumeration node values) =
+      D.enumeration node values ∙ rw (these t.identifier values) refl
+  spec_rolled (Spec-F.Array node ranges element) =
+      D.array node ranges element ∙ rw (
+        two (map t.range ranges) (t.spec element ∷ []),
+        these t.range ranges,
+        append-nil (D.of_spec element),
+      ) refl
 
-  init_rolled : (y : Init-F Init Item FieldInit) → D.of_init (roll-Init y) ≡ of_layer (t.init_layer y)
+  init_rolled : (y : Init-F Init Item FieldInit) → D.of_init (roll-Init y)
+      ≡ of_layer (t.init_layer y)
   unfolding roll-Init Carrier.roll
   init_rolled (Init-F.Value v) = D.value v ∙ sym (append-nil (E.of_expr v))
   init_rolled (Init-F.Array node xs) = D.elements node xs ∙ rw (these t.item xs) refl
   init_rolled (Init-F.Structure node xs) = D.structure node xs ∙ rw (these t.field_init xs) refl
 
-  item_rolled : (y : Item-F Init Item FieldInit) → D.of_item (roll-Item y) ≡ of_layer (t.item_layer y)
+  item_rolled : (y : Item-F Init Item FieldInit) → D.of_item (roll-Item y)
+      ≡ of_layer (t.item_layer y)
   unfolding roll-Item Carrier.roll
   item_rolled (Item-F.One v) = D.one v ∙ sym (append-nil (D.of_init v))
   item_rolled (Item-F.Repeated node count v) = D.repeated node count v ∙ simp append-nil refl
 
   field_init_is : (x : FieldInit) → D.of_field x ≡ of_layer (t.field_init_layer x)
-  field_init_is x = ap D.of_field (is-FieldInit' x) ∙ D.field x.node x.name x.value ∙ simp append-nil refl
+  field_init_is x =
+      ap D.of_field (is-FieldInit' x) ∙ D.field x.node x.name x.value ∙ simp append-nil refl
 
   decl_is : (x : Decl) → of_decl D x ≡ of_layer (t.decl_layer x)
-  decl_is x = rw (two (map t.identifier x.names) (t.if_there t.address x.address ++ (t.spec x.spec ∷ t.if_there t.init x.init)), these t.identifier x.names,
-      two (t.if_there t.address x.address) (t.spec x.spec ∷ t.if_there t.init x.init), there_if t.address x.address, there_if t.init x.init) refl
+  decl_is x =
+      rw (
+        two (map t.identifier x.names) (t.if_there t.address x.address
+            ++ (t.spec x.spec ∷ t.if_there t.init x.init)),
+        these t.identifier x.names,
+        two (t.if_there t.address x.address) (t.spec x.spec ∷ t.if_there t.init x.init),
+        there_if t.address x.address,
+        there_if t.init x.init,
+      ) refl
 
   fields_is : (x : Fields) → of_fields D x ≡ of_layer (t.fields_layer x)
-  fields_is x = rw (two (map t.identifier x.names) (t.spec x.spec ∷ t.if_there t.init x.init), these t.identifier x.names, there_if t.init x.init) refl
+  fields_is x =
+      rw (
+        two (map t.identifier x.names) (t.spec x.spec ∷ t.if_there t.init x.init),
+        these t.identifier x.names,
+        there_if t.init x.init,
+      ) refl
 
   shape_is : (x : Shape) → of_shape D x ≡ of_layer (t.shape_layer x)
   shape_is (shapes.Spec s) = sym (append-nil (D.of_spec s))
@@ -243,7 +314,13 @@ module _ {M : Type 0} {P : Word → List M → Type 0} {G : Gathering P} {E : Ex
   step_names_is (steps.Several node names) = rw (these t.identifier names) refl
 
   transition_is : (x : Transition) → of_transition S x ≡ of_layer (t.transition_layer x)
-  transition_is x = rw (two (t.if_there t.identifier x.name) (t.step_names x.from ∷ t.step_names x.to ∷ t.expr x.condition ∷ []), there_if t.identifier x.name, append-nil (E.of_expr x.condition)) refl
+  transition_is x =
+      rw (
+        two (t.if_there t.identifier x.name) (t.step_names x.from ∷ t.step_names x.to ∷ t.expr
+            x.condition ∷ []),
+        there_if t.identifier x.name,
+        append-nil (E.of_expr x.condition),
+      ) refl
 
   sfc_part_is : (x : SfcPart) → of_sfc_part S x ≡ of_layer (t.sfc_part_layer x)
   sfc_part_is (chart.Step x) = sym (append-nil (of_step G x))
@@ -262,17 +339,39 @@ module _ {M : Type 0} {P : Word → List M → Type 0} {G : Gathering P} {E : Ex
   unit_kind_is kinds.Program = refl
 
   line_is : (x : ProgramLine) → of_program_line G x ≡ of_layer (t.program_line_layer x)
-  line_is x = rw (two (t.if_there t.identifier x.task) (t.identifier x.program ∷ []), there_if t.identifier x.task, append-nil (of_identifier G x.program)) refl
+  line_is x =
+      rw (
+        two (t.if_there t.identifier x.task) (t.identifier x.program ∷ []),
+        there_if t.identifier
+            x.task,
+        append-nil (of_identifier G x.program),
+      ) refl
 
   resource_is : (x : Resource) → of_resource D x ≡ of_layer (t.resource_layer x)
-  resource_is x = rw (two (map t.globals x.globals) (t.tasks x.tasks ∷ []), these t.globals x.globals, append-nil (of_tasks D x.tasks)) refl
+  resource_is x =
+      rw (
+        two (map t.globals x.globals) (t.tasks x.tasks ∷ []),
+        these t.globals x.globals,
+        append-nil (of_tasks D x.tasks),
+      ) refl
 
   config_is : (x : Config) → of_config D x ≡ of_layer (t.config_layer x)
-  config_is x = rw (two (map t.globals x.globals) (map t.resource x.resources ++ t.tasks x.tasks ∷ []), these t.globals x.globals, two (map t.resource x.resources) (t.tasks x.tasks ∷ []), these t.resource x.resources,
-      append-nil (of_tasks D x.tasks)) refl
+  config_is x =
+      rw (
+        two (map t.globals x.globals) (map t.resource x.resources ++ t.tasks x.tasks ∷ []),
+        these t.globals x.globals,
+        two (map t.resource x.resources) (t.tasks x.tasks ∷ []),
+        these t.resource x.resources,
+        append-nil (of_tasks D x.tasks),
+      ) refl
 
   unit_is : (x : UnitTree) → of_unit S D x ≡ of_layer (layer_of (t.unit x))
-  unit_is x = rw (two (map t.section x.sections) (t.body x.body ∷ []), these t.section x.sections, append-nil (of_body S x.body)) refl
+  unit_is x =
+      rw (
+        two (map t.section x.sections) (t.body x.body ∷ []),
+        these t.section x.sections,
+        append-nil (of_body S x.body),
+      ) refl
 
   file_part_is : (x : FilePart) → of_file_part S D x ≡ of_layer (t.file_part_layer x)
   file_part_is (part.Unit x) = sym (append-nil (of_unit S D x))
@@ -283,8 +382,10 @@ module _ {M : Type 0} {P : Word → List M → Type 0} {G : Gathering P} {E : Ex
   -- ---- all of them
 
   pub layer_is : (x : Tree) → of_any x ≡ of_layer (layer_of x)
-  layer_is (t.identifier x) = ap (λ ms. G.own x.node ++ ms) (sym (append-nil (G.spelled k.Name x.name)))
-  layer_is (t.address x) = ap (λ ms. G.own x.node ++ ms) (sym (append-nil (G.spelled k.Address x.name)))
+  layer_is (t.identifier x) =
+      ap (λ ms. G.own x.node ++ ms) (sym (append-nil (G.spelled k.Name x.name)))
+  layer_is (t.address x) =
+      ap (λ ms. G.own x.node ++ ms) (sym (append-nil (G.spelled k.Address x.name)))
   layer_is (t.root x) = root_is x
   layer_is (t.expr x) = ap E.of_expr (sym (roll-out-Expr x)) ∙ expr_rolled (out-Expr x)
   layer_is (t.part x) = ap E.of_part (sym (roll-out-Part x)) ∙ part_rolled (out-Part x)
@@ -323,7 +424,12 @@ module _ {M : Type 0} {P : Word → List M → Type 0} {G : Gathering P} {E : Ex
   layer_is (t.parameter x) = simp append-nil refl
   layer_is (t.task x) = rw (these t.parameter x.parameters) refl
   layer_is (t.program_line x) = line_is x
-  layer_is (t.tasks x) = rw (two (map t.task x.tasks) (map t.program_line x.lines), these t.task x.tasks, these t.program_line x.lines) refl
+  layer_is (t.tasks x) =
+      rw (
+        two (map t.task x.tasks) (map t.program_line x.lines),
+        these t.task x.tasks,
+        these t.program_line x.lines,
+      ) refl
   layer_is (t.resource x) = resource_is x
   layer_is (t.config x) = config_is x
   layer_is (t.file_part x) = file_part_is x

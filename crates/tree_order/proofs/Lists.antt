@@ -1,7 +1,8 @@
 -- Lists as collections: what they contain, and how often.
-use Rattle.std.proofs.Common.{◌≡◌, ℕ, zero, suc, ◌+◌, Bool, true, false, cond, List, [], ◌∷◌, ◌++◌, map, length, Option, Some, None, slice_get, refl, sym, ap, subst, ◌∙◌, arith, inl, inr, ◌⊎◌}
-use Rattle.std.specs.Prelude.{Contains, count_by, flat_map, filter_map}
-use Rattle.std.specs.List.{cons_option}
+use Rattle.std.proofs.Common.{◌≡◌, ℕ, zero, suc, ◌+◌, Bool, true, cond, List, [], ◌∷◌, ◌++◌}
+use Rattle.std.proofs.Common.{length, Option, Some, None, slice_get, refl, sym, ap}
+use Rattle.std.proofs.Common.{arith, inl, inr, ◌⊎◌}
+use Rattle.std.specs.Prelude.{Contains, count_by}
 use Rattle.std.proofs.lemmas.List.Sums.{sum_by-append, sum_by-cons}
 
 abbrev pub Among : {X : Type 0} → X → List X → Type 0
@@ -11,17 +12,21 @@ Among x (y ∷ ys) = (x ≡ y) ⊎ Among x ys
 pub among_contained : {X : Type 0} (xs : List X) (x : X) → Contains xs x → Among x xs
 among_contained [] x (k, less, is) = absurd (omega (arith, less))
 among_contained (y ∷ ys) x (zero, less, is) = inl (sym is)
-among_contained (y ∷ ys) x (suc k, less, is) = inr (among_contained ys x (k, omega (arith, less), is))
+among_contained (y ∷ ys) x (suc k, less, is) =
+    inr (among_contained ys x (k, omega (arith, less), is))
 
 pub contained_among : {X : Type 0} (xs : List X) (x : X) → Among x xs → Contains xs x
 contained_among [] x h = absurd h
 contained_among (y ∷ ys) x (inl is) = (zero, omega arith, sym is)
-contained_among (y ∷ ys) x (inr h) = let r = contained_among ys x h in (suc r.0, omega (arith, r.1), r.2)
+contained_among (y ∷ ys) x (inr h) =
+    let r = contained_among ys x h in (suc r.0, omega (arith, r.1), r.2)
 
-pub among_either : {X : Type 0} (x : X) (xs ys : List X) → Among x (xs ++ ys) → Among x xs ⊎ Among x ys
+pub among_either : {X : Type 0} (x : X) (xs ys : List X) → Among x (xs ++ ys) →
+    Among x xs ⊎ Among x ys
 among_either x [] ys h = inr h
 among_either x (z ∷ xs) ys (inl is) = inl (inl is)
-among_either x (z ∷ xs) ys (inr h) = elim (among_either x xs ys h) [ inl k ↦ inl (inr k) | inr k ↦ inr k ]
+among_either x (z ∷ xs) ys (inr h) =
+    elim (among_either x xs ys h) [ inl k ↦ inl (inr k) | inr k ↦ inr k ]
 
 pub among_left : {X : Type 0} (x : X) (xs ys : List X) → Among x xs → Among x (xs ++ ys)
 among_left x [] ys h = absurd h
@@ -41,18 +46,22 @@ first_of x y e = ap (λ o. value x o) e
     value d None = d
     value d (Some x) = x
 
-pub same_places : {X : Type 0} (xs ys : List X) → ((k : ℕ) → slice_get xs k ≡ slice_get ys k) → xs ≡ ys
+pub same_places : {X : Type 0} (xs ys : List X) → ((k : ℕ) → slice_get xs k ≡ slice_get ys k) →
+    xs ≡ ys
 same_places [] [] h = refl
 same_places [] (y ∷ ys) h = absurd (let e = h zero in cc)
 same_places (x ∷ xs) [] h = absurd (let e = h zero in cc)
-same_places (x ∷ xs) (y ∷ ys) h = rw (first_of x y (h zero), same_places xs ys (λ k. h (suc k))) refl
+same_places (x ∷ xs) (y ∷ ys) h =
+    rw (first_of x y (h zero), same_places xs ys (λ k. h (suc k))) refl
 
 -- ---- counts
 
-pub count_append : {X : Type 0} (test : X → Bool) (xs ys : List X) → count_by test (xs ++ ys) ≡ count_by test xs + count_by test ys
+pub count_append : {X : Type 0} (test : X → Bool) (xs ys : List X) → count_by test (xs ++ ys)
+    ≡ count_by test xs + count_by test ys
 count_append test xs ys = sum_by-append (λ x. cond (test x) 1 0) xs ys
 
-pub count_cons : {X : Type 0} (test : X → Bool) (x : X) (xs : List X) → count_by test (x ∷ xs) ≡ cond (test x) 1 0 + count_by test xs
+pub count_cons : {X : Type 0} (test : X → Bool) (x : X) (xs : List X) → count_by test (x ∷ xs)
+    ≡ cond (test x) 1 0 + count_by test xs
 count_cons test x xs = sum_by-cons (λ y. cond (test y) 1 0) x xs
 
 -- all of them

@@ -1,5 +1,7 @@
--- What stands in a tree: of each tree its own node, if it has one; the text of the token that it is made of, if it is made of one; and the trees
--- directly within it. Source: this profile. The code has no such type; it descends from type to type.
+-- What stands in a tree: of each tree its own node, if it has one; the text of the token that it is
+-- made of, if it is made of one; and the trees
+-- directly within it. Source: this profile. The code has no such type; it descends from type to
+-- type.
 use Rattle.std.specs.Prelude.{◌≡◌, ◌⊎◌, ℕ, List, [], ◌∷◌, ◌++◌, map, Contains, Option, Some, None}
 use Rattle.token_grammar.specs.declared.token.TokenKind.{TokenKind}
 use Rattle.token_grammar.specs.declared.token.TokenKind.TheVariants as k
@@ -110,8 +112,8 @@ pub record Layer : Type 0 where
   pub parts : List Tree
 
 -- a tree with a node and nothing within
-abbrev pub bare : Node → Layer
-bare node = record { node = Some node; text = None; parts = [] }
+abbrev pub alone : Node → Layer
+alone node = record { node = Some node; text = None; parts = [] }
 
 -- a tree with a node that is made of a token
 abbrev pub made_of : Node → TokenKind → List ℕ → Layer
@@ -140,13 +142,14 @@ abbrev pub expr_layer : Expr-F Expr Part Argument Path → Layer
 expr_layer (Expr-F.Number node minus text) = made_of node k.Number text
 expr_layer (Expr-F.Typed node text) = made_of node k.TypedNumber text
 expr_layer (Expr-F.Time node text) = made_of node k.Duration text
-expr_layer (Expr-F.Truth node truth) = bare node
+expr_layer (Expr-F.Truth node truth) = alone node
 expr_layer (Expr-F.Path x) = only (path x ∷ [])
 expr_layer (Expr-F.Value node name value) = around node (identifier name ∷ identifier value ∷ [])
 expr_layer (Expr-F.Parenthesized node inner) = around node (expr inner ∷ [])
 expr_layer (Expr-F.Unary node operator operand) = around node (expr operand ∷ [])
 expr_layer (Expr-F.Binary node operator left right) = around node (expr left ∷ expr right ∷ [])
-expr_layer (Expr-F.Call node name arguments) = around node (identifier name ∷ map argument arguments)
+expr_layer (Expr-F.Call node name arguments) =
+    around node (identifier name ∷ map argument arguments)
 
 abbrev pub part_layer : Part-F Expr Part Argument Path → Layer
 part_layer (Part-F.Field name) = only (identifier name ∷ [])
@@ -170,8 +173,10 @@ abbrev pub label_layer : Label → Layer
 label_layer x = around x.node (point x.first ∷ if_there point x.last)
 
 abbrev pub stmt_argument_layer : StmtArgument → Layer
-stmt_argument_layer (StmtArgument.Input node name value) = around node (identifier name ∷ expr value ∷ [])
-stmt_argument_layer (StmtArgument.Output node name target) = around node (identifier name ∷ path target ∷ [])
+stmt_argument_layer (StmtArgument.Input node name value) =
+    around node (identifier name ∷ expr value ∷ [])
+stmt_argument_layer (StmtArgument.Output node name target) =
+    around node (identifier name ∷ path target ∷ [])
 
 abbrev pub counter_layer : Counter → Layer
 counter_layer x = only (identifier x.variable ∷ expr x.first ∷ expr x.last ∷ if_there expr x.step)
@@ -183,15 +188,19 @@ stmts_if (Some found) = map stmt found
 
 abbrev pub stmt_layer : Stmt-F Stmt Branch Case → Layer
 stmt_layer (Stmt-F.Assign node target value) = around node (path target ∷ expr value ∷ [])
-stmt_layer (Stmt-F.Call node name arguments) = around node (identifier name ∷ map stmt_argument arguments)
-stmt_layer (Stmt-F.Return node) = bare node
-stmt_layer (Stmt-F.Exit node) = bare node
-stmt_layer (Stmt-F.Continue node) = bare node
-stmt_layer (Stmt-F.If node branches otherwise) = around node (map branch branches ++ stmts_if otherwise)
-stmt_layer (Stmt-F.Case node selector cases otherwise) = around node (expr selector ∷ (map one_case cases ++ stmts_if otherwise))
+stmt_layer (Stmt-F.Call node name arguments) =
+    around node (identifier name ∷ map stmt_argument arguments)
+stmt_layer (Stmt-F.Return node) = alone node
+stmt_layer (Stmt-F.Exit node) = alone node
+stmt_layer (Stmt-F.Continue node) = alone node
+stmt_layer (Stmt-F.If node branches otherwise) =
+    around node (map branch branches ++ stmts_if otherwise)
+stmt_layer (Stmt-F.Case node selector cases otherwise) =
+    around node (expr selector ∷ (map one_case cases ++ stmts_if otherwise))
 stmt_layer (Stmt-F.For node counts found) = around node (counter counts ∷ map stmt found)
 stmt_layer (Stmt-F.While node condition found) = around node (expr condition ∷ map stmt found)
-stmt_layer (Stmt-F.Repeat node found condition) = around node (map stmt found ++ expr condition ∷ [])
+stmt_layer (Stmt-F.Repeat node found condition) =
+    around node (map stmt found ++ expr condition ∷ [])
 
 abbrev pub branch_layer : Branch → Layer
 branch_layer x = only (expr x.condition ∷ map stmt x.body)
@@ -202,7 +211,7 @@ case_layer x = only (map label x.labels ++ map stmt x.body)
 -- ---- declarations
 
 abbrev pub type_name_layer : TypeName → Layer
-type_name_layer (TypeName.Elementary node elem) = bare node
+type_name_layer (TypeName.Elementary node elem) = alone node
 type_name_layer (TypeName.Named name) = only (identifier name ∷ [])
 
 abbrev pub spec_layer : Spec-F Spec → Layer
@@ -217,13 +226,16 @@ init_layer (Init-F.Structure node values) = around node (map field_init values)
 
 abbrev pub item_layer : Item-F Init Item FieldInit → Layer
 item_layer (Item-F.One value) = only (init value ∷ [])
-item_layer (Item-F.Repeated node count value) = record { node = Some node; text = Some (k.Number, count); parts = init value ∷ [] }
+item_layer (Item-F.Repeated node count value) =
+    record { node = Some node; text = Some (k.Number, count); parts = init value ∷ [] }
 
 abbrev pub field_init_layer : FieldInit → Layer
 field_init_layer x = around x.node (identifier x.name ∷ init x.value ∷ [])
 
 abbrev pub decl_layer : Decl → Layer
-decl_layer x = around x.node (map identifier x.names ++ (if_there address x.address ++ (spec x.spec ∷ if_there init x.init)))
+decl_layer x =
+    around x.node (map identifier x.names
+    ++ (if_there address x.address ++ (spec x.spec ∷ if_there init x.init)))
 
 abbrev pub fields_layer : Fields → Layer
 fields_layer x = around x.node (map identifier x.names ++ (spec x.spec ∷ if_there init x.init))
@@ -239,7 +251,9 @@ step_names_layer (StepNames.One name) = only (identifier name ∷ [])
 step_names_layer (StepNames.Several node names) = around node (map identifier names)
 
 abbrev pub transition_layer : Transition → Layer
-transition_layer x = around x.node (if_there identifier x.name ++ (step_names x.from ∷ step_names x.to ∷ expr x.condition ∷ []))
+transition_layer x =
+    around x.node (if_there identifier x.name
+    ++ (step_names x.from ∷ step_names x.to ∷ expr x.condition ∷ []))
 
 abbrev pub sfc_part_layer : SfcPart → Layer
 sfc_part_layer (SfcPart.Step x) = only (step x ∷ [])
@@ -258,13 +272,18 @@ unit_kind_layer UnitKind.Block = only []
 unit_kind_layer UnitKind.Program = only []
 
 abbrev pub program_line_layer : ProgramLine → Layer
-program_line_layer x = around x.node (identifier x.name ∷ (if_there identifier x.task ++ identifier x.program ∷ []))
+program_line_layer x =
+    around x.node (identifier x.name ∷ (if_there identifier x.task ++ identifier x.program ∷ []))
 
 abbrev pub resource_layer : Resource → Layer
-resource_layer x = around x.node (identifier x.name ∷ identifier x.kind ∷ (map globals x.globals ++ tasks x.tasks ∷ []))
+resource_layer x =
+    around x.node (identifier x.name ∷ identifier x.kind ∷ (map globals x.globals
+    ++ tasks x.tasks ∷ []))
 
 abbrev pub config_layer : Config → Layer
-config_layer x = around x.node (identifier x.name ∷ (map globals x.globals ++ (map resource x.resources ++ tasks x.tasks ∷ [])))
+config_layer x =
+    around x.node (identifier x.name ∷ (map globals x.globals
+    ++ (map resource x.resources ++ tasks x.tasks ∷ [])))
 
 abbrev pub file_part_layer : FilePart → Layer
 file_part_layer (FilePart.Unit x) = only (unit x ∷ [])
@@ -306,7 +325,9 @@ layer_of (sfc_part x) = sfc_part_layer x
 layer_of (sfc x) = around x.node (step x.initial ∷ map sfc_part x.parts)
 layer_of (body x) = body_layer x
 layer_of (unit_kind x) = unit_kind_layer x
-layer_of (unit x) = around x.node (identifier x.name ∷ unit_kind x.kind ∷ (map section x.sections ++ body x.body ∷ []))
+layer_of (unit x) =
+    around x.node (identifier x.name ∷ unit_kind x.kind ∷ (map section x.sections
+    ++ body x.body ∷ []))
 layer_of (fields x) = fields_layer x
 layer_of (shape x) = shape_layer x
 layer_of (type_decl x) = around x.node (identifier x.name ∷ shape x.shape ∷ if_there init x.init)
@@ -321,14 +342,17 @@ layer_of (config x) = config_layer x
 layer_of (file_part x) = file_part_layer x
 
 -- The second tree stands within the first.
-pub data Holds : Tree → Tree → Type 0 where
-  directly : {outer inner : Tree} → Contains (layer_of outer).parts inner → Holds outer inner
-  further : {outer middle inner : Tree} → Contains (layer_of outer).parts middle → Holds middle inner → Holds outer inner
+pub data Encloses : Tree → Tree → Type 0 where
+  directly : {outer inner : Tree} → Contains (layer_of outer).parts inner → Encloses outer inner
+  further : {outer middle inner : Tree} → Contains (layer_of outer).parts middle →
+      Encloses middle inner → Encloses outer inner
 
 -- the trees of a file that stand within no other
 abbrev pub tops_of : SourceTree → List Tree
-tops_of tree = map unit tree.units ++ (map types tree.types ++ (map globals tree.globals ++ map config tree.config))
+tops_of tree =
+    map unit tree.units ++ (map types tree.types
+    ++ (map globals tree.globals ++ map config tree.config))
 
 -- The tree stands in the file.
 abbrev pub IsPartOf : SourceTree → Tree → Type 0
-IsPartOf tree x = (top : Tree) × Contains (tops_of tree) top × ((x ≡ top) ⊎ Holds top x)
+IsPartOf tree x = (top : Tree) × Contains (tops_of tree) top × ((x ≡ top) ⊎ Encloses top x)
