@@ -3,7 +3,7 @@
 ghost use Rattle.std.specs.Prelude.{◌≡◌, IfOk};
 ghost use Rattle.token_grammar.specs.Input.{Reads, ReadsAs, view};
 ghost use Rattle.st_statements.specs.steps.Parse as spec;
-ghost use Rattle.st_statements.specs.Trees as trees;
+ghost use Rattle.st_statements.specs.steps.ReadTrees as trees;
 ghost use Rattle.st_statements.specs.steps.Held.{branches_of};
 ghost use Rattle.st_statements.specs.steps.Nests.{NestsStatements};
 
