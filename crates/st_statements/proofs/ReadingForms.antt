@@ -4,7 +4,7 @@ use Rattle.std.proofs.Common.{◌≡◌, ℕ, zero, suc, ◌+◌, ◌<◌, ◌�
 use Rattle.token_grammar.specs.declared.token.TokenKind.{TokenKind}
 use Rattle.token_grammar.specs.declared.token.TokenKind.TheVariants as k
 use Rattle.token_grammar.specs.Texts.{Lexeme}
-use Rattle.token_grammar.specs.Input.{Parser, and_then, pure, take, sees_in}
+use Rattle.token_grammar.specs.steps.Parsers.{Parser, and_then, pure, take, sees_in}
 use Rattle.token_grammar.specs.Grammar.{Rule, ◌>>=◌, ◌or◌, give, token, token_as, many}
 use Rattle.token_grammar.proofs.Laws.{Exact, Some_}
 use Rattle.token_grammar.proofs.Bind.{bind}
