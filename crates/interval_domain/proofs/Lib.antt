@@ -2,6 +2,7 @@ pub mod Between
 pub mod Bounds
 pub mod Choices
 pub mod Laws
+pub mod OnGrid
 pub mod OneGrid
 pub mod Patterns
 pub mod Products
