@@ -1,6 +1,6 @@
 -- What the queue of waiting units and the lists of readers keep.
-use Rattle.std.proofs.Common.{◌≡◌, ◌≢◌, ℕ, zero, suc, ◌+◌, ◌<◌, ◌≤◌, Bool, true, false, cond, List, [], ◌∷◌, ◌++◌, length, get_or, arith, refl, sym, subst, ap, ◌∙◌, inl, inr, ⊎_elim, get_or-set_same, get_or-set_other, length-append, add-one, append-nil, replicate, take}
-use Rattle.std.specs.Prelude.{◌⊎◌, slice_set, map}
+use Rattle.std.proofs.Common.{◌≡◌, ◌≢◌, ℕ, zero, suc, ◌+◌, ◌<◌, ◌≤◌, Bool, true, false, cond, List, [], ◌∷◌, ◌++◌, length, get_or, arith, refl, sym, subst, ap, ◌∙◌, inl, inr, ⊎_elim, get_or-set_other, length-append, add-one, append-nil, replicate, take}
+use Rattle.std.specs.Prelude.{◌⊎◌, slice_set}
 use Rattle.std.specs.List.{Contains, filter, range_with_len}
 use Rattle.std.proofs.lemmas.List.{length-set, length-replicate, get_or_push, get_or_past, take_more}
 use Rattle.std.proofs.Math.ListN.{get_or-append}

@@ -1,14 +1,14 @@
 -- What the worklist keeps while it raises a table, entry by entry and unit by unit.
-use Rattle.std.proofs.Common.{◌≡◌, ◌≢◌, ℕ, zero, suc, ◌+◌, ◌-◌, ◌*◌, ◌<◌, ◌≤◌, Bool, true, false, cond, List, [], ◌∷◌, length, get_or, arith, refl, sym, subst, ap, ◌∙◌, inl, inr, ⊎_elim, replicate, get_or-set_same, get_or-set_other}
+use Rattle.std.proofs.Common.{◌≡◌, ◌≢◌, ℕ, zero, suc, ◌+◌, ◌-◌, ◌*◌, ◌<◌, ◌≤◌, Bool, true, false, cond, List, [], ◌∷◌, length, arith, refl, sym, subst, ap, ◌∙◌, inl, inr, ⊎_elim, replicate, get_or-set_same, get_or-set_other}
 use Rattle.std.specs.Prelude.{◌⊎◌, slice_set}
 use Rattle.std.specs.List.{Contains, filter, range_with_len}
 use Rattle.std.proofs.lemmas.List.{length-replicate, length-set, get_or_past}
-use Rattle.interval_domain.specs.Interval.{Interval, Empty, Span, IsOrdered, IsWithin, hull}
+use Rattle.interval_domain.specs.Interval.{Interval, Empty, IsOrdered, IsWithin, hull}
 use Rattle.interval_domain.specs.Grid.{IsOnGrid}
 use Rattle.interval_domain.proofs.Within.{within_refl, within_trans, within_hull_left, within_hull_right, hull_least}
-use Rattle.least_table.specs.System.{Meaning, Intervals, at, AreWithin, AreOnGrid, AgreeFor, GivesBetween, IsJoined, IsTable, IsMonotone, IsClosed, IsLeast, readers_of, readings, weight}
+use Rattle.least_table.specs.System.{Meaning, Intervals, at, AreWithin, AgreeFor, GivesBetween, IsJoined, IsTable, IsMonotone, IsClosed, IsLeast, readers_of, readings, weight}
 use Rattle.least_table.specs.steps.Worklist.{Exceeds, IsQueued, IsSettled, IsBelow, IsGiven, AreSettled, IsCounted, IsOnTheWay, IsEvaluated}
-use Rattle.least_table.proofs.Within.{hull_ordered, hull_on_grid, hull_empty, within_antisym, tables_refl, tables_trans, at_empties}
+use Rattle.least_table.proofs.Within.{hull_ordered, hull_on_grid, hull_empty, at_empties}
 use Rattle.least_table.proofs.Ranges.{in_range, below_range}
 use Rattle.least_table.proofs.Weights.{readings_le, readings_more, units_weight}
 

@@ -2,7 +2,7 @@
 -- monotone operator is the least table that holds what the operator gives for it. The code evaluates units until nothing grows; here no
 -- unit comes before another and nothing is done again.
 use Rattle.std.specs.Prelude.{◌≡◌, ℕ, ◌*◌, ◌<◌, ◌≤◌, ◌⊎◌, Bool, true, List, length, get_or, ℤ}
-use Rattle.std.specs.List.{Contains, filter, range_with_len, sum_by}
+use Rattle.std.specs.List.{filter, range_with_len, sum_by}
 use Rattle.std.specs.List.Sorted.{IsStrictlySortedBy}
 use Rattle.std.specs.Ordering.{int_cmp}
 use Rattle.interval_domain.specs.Interval.{Interval, Empty, IsOrdered, IsWithin, hull, holds}

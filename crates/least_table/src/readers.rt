@@ -41,11 +41,7 @@ pub(crate) fn all_readers<S: System>(alloc: Global, sys: &S) -> Result<Vec<Reade
     Ok(readers)
 }
 
-fn readers_of_entry<S: System>(
-    alloc: Global,
-    sys: &S,
-    entry: usize,
-) -> Result<Readers, AllocError>
+fn readers_of_entry<S: System>(alloc: Global, sys: &S, entry: usize) -> Result<Readers, AllocError>
     requires { entry < length (S.meaning sys.now).widest }
     ensures { IfOk result (λ readers. readers ≡ readers_of (S.meaning sys.now) entry) }
 {

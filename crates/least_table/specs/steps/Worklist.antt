@@ -2,7 +2,7 @@
 use Rattle.std.specs.Prelude.{◌≡◌, ℕ, ◌+◌, ◌<◌, ◌≤◌, ◌⊎◌, Bool, true, false, List, [], length, get_or, ◌≤ℤ◌}
 use Rattle.std.specs.List.{Contains}
 use Rattle.interval_domain.specs.Interval.{Interval, Empty, Span, IsWithin}
-use Rattle.least_table.specs.System.{Meaning, Intervals, at, AreWithin, AreOnGrid, IsTable, IsClosed, readers_of, readings}
+use Rattle.least_table.specs.System.{Meaning, at, AreWithin, AreOnGrid, IsTable, IsClosed, readers_of, readings}
 
 -- a bound of the second interval, which isn't empty, lies beyond the first
 abbrev pub Exceeds : Interval → Interval → Type 0

@@ -1,5 +1,4 @@
 use Rattle.std.proofs.Common.{◌≡◌, ℕ, ◌<◌, List, length, refl, ◌∙◌, arith, sym, subst}
-use Rattle.std.specs.Prelude.{slice_set}
 use Rattle.std.specs.List.{Contains}
 use Rattle.least_table.specs.System.{Intervals, at, readers_of}
 use Rattle.least_table.specs.steps.Worklist.{IsOnTheWay, IsSettled}

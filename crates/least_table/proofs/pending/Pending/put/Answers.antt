@@ -1,4 +1,4 @@
-use Rattle.std.proofs.Common.{◌<◌, length, ap, sym, subst, arith, ℕ}
+use Rattle.std.proofs.Common.{◌<◌, length, ap, arith}
 use Rattle.least_table.specs.steps.Worklist.{Waiting}
 use Rattle.least_table.proofs.Queues.{queued_new, marked_new}
 use Rattle.least_table.proofs.pending.Pending.put.Goals as goal

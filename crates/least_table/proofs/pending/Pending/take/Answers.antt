@@ -1,4 +1,4 @@
-use Rattle.std.proofs.Common.{rules, ◌≡◌, ◌∷◌, List, ℕ, ◌<◌, length, ap, subst, arith}
+use Rattle.std.proofs.Common.{rules, ◌∷◌, List, ℕ, ◌<◌, length, ap, subst, arith}
 use Rattle.least_table.specs.steps.Worklist.{Waiting, AreMarked}
 use Rattle.least_table.proofs.Queues.{taken, first_in}
 use Rattle.least_table.proofs.pending.Pending.take.Goals as goal
