@@ -104,3 +104,15 @@ pub meet-right : (i k : Interval) → IsWithin (meet i k) k
 meet-right Empty k = tt
 meet-right (Span a b) Empty = tt
 meet-right (Span a b) (Span c d) = span-in (int_max a c) (int_min b d) c d (omega (arith, ints, clamps)) (omega (arith, ints, clamps))
+
+-- it is in order
+pub meet-ordered : (i k : Interval) → IsOrdered (meet i k)
+meet-ordered Empty k = tt
+meet-ordered (Span a b) Empty = tt
+meet-ordered (Span a b) (Span c d) = span-in-order (int_max a c) (int_min b d)
+  where
+    span-in-order : (a b : ℤ) → IsOrdered (span a b)
+    span-in-order a b =
+        by_lt_z b a
+        (λ below. subst (λ (i : Interval). IsOrdered i) (sym (span-reversed a b below)) tt)
+        (λ ordered. subst (λ (i : Interval). IsOrdered i) (sym (span-ordered a b ordered)) ordered)

@@ -5,10 +5,10 @@ use Rattle.std.proofs.lemmas.Nat.{mul-add-lt, mod_below, pow_pos, pow-add, shr_b
 use Rattle.std.proofs.lemmas.Int.{ints}
 use Rattle.interval_domain.specs.Interval.{Interval, Empty, Span, Holds, IsWithin, IsOrdered}
 use Rattle.interval_domain.specs.Selection.{HoldsAll}
-use Rattle.interval_domain.specs.Bits.{patterns}
+use Rattle.interval_domain.specs.Bits.{patterns, patterns_in}
 use Rattle.interval_domain.specs.Shifts.{moved, turns, turned, shl_of, shr_of, rol_of, ror_of, shl_row, shr_row, rol_row, ror_row, moved_row, MeetsShiftLaws}
-use Rattle.interval_domain.proofs.Laws.{span-holds, span-within}
-use Rattle.interval_domain.proofs.Between.{holds-within}
+use Rattle.interval_domain.proofs.Laws.{span-holds, span-within, meet-within}
+use Rattle.interval_domain.proofs.Between.{holds-within, meet-right, meet-ordered}
 use Rattle.interval_domain.proofs.Quotients.{div-up, div-down}
 use Rattle.interval_domain.proofs.Patterns.{exact_or-held, exact_or-larger, size-up}
 
@@ -88,23 +88,24 @@ moved-larger op w keeps (Span a b) (Span c d) o q p (Span e f) (Span g n) h m =
     exact_or-larger (op w) a b c d e f g n (patterns w) (patterns w) o q h.0 h.1 m.0 m.1
     (keeps a c (p.0, through a b (pos (2 ^ w - 1)) o p.1)) (same-within (pos 0), same-within (pos (2 ^ w - 1)))
 
-laws-of : (op : ℕ → ℤ → ℤ → ℤ) (w v : ℕ) (i j out : Interval) → KeepsPatterns op w → IsOrdered i × IsOrdered j → IsWithin i (patterns w)
-    → v ≡ w → out ≡ moved_row op v i j → MeetsShiftLaws op (moved_row op) w i j out
-laws-of op w v i j out keeps o p f e =
-    subst (λ (out : Interval). MeetsShiftLaws op (moved_row op) w i j out) (sym (e ∙ ap (λ w. moved_row op w i j) f))
-    (record { held = moved-held op w keeps i j p; larger = λ k l q h m. moved-larger op w keeps i j o.0 o.1 p k l h m })
+laws-of : (op : ℕ → ℤ → ℤ → ℤ) (w v : ℕ) (i j out : Interval) → KeepsPatterns op w → IsOrdered j → v ≡ w → out ≡ moved_row op v (patterns_in w i) j
+    → MeetsShiftLaws op (moved_row op) w i j out
+laws-of op w v i j out keeps o f e =
+    subst (λ (out : Interval). MeetsShiftLaws op (moved_row op) w i j out) (sym (e ∙ ap (λ w'. moved_row op w' (patterns_in w i) j) f))
+    (record {
+      held = moved-held op w keeps (patterns_in w i) j (meet-right i (patterns w));
+      larger = λ k l h m. moved-larger op w keeps (patterns_in w i) j (meet-ordered i (patterns w)) o (meet-right i (patterns w))
+          (patterns_in w k) l (meet-within i k (patterns w) h) m;
+    })
 
-pub laws-shl : (w v : ℕ) (i j out : Interval) → IsOrdered i × IsOrdered j → IsWithin i (patterns w) → v ≡ w → out ≡ shl_row v i j
-    → MeetsShiftLaws shl_of shl_row w i j out
-laws-shl w v i j out o p f e = laws-of shl_of w v i j out (keeps-shl w) o p f e
+pub laws-shl : (w v : ℕ) (i j out : Interval) → IsOrdered j → v ≡ w → out ≡ shl_row v (patterns_in w i) j → MeetsShiftLaws shl_of shl_row w i j out
+laws-shl w v i j out o f e = laws-of shl_of w v i j out (keeps-shl w) o f e
 
-pub laws-rol : (w v : ℕ) (i j out : Interval) → 0 < v → IsOrdered i × IsOrdered j → IsWithin i (patterns w) → v ≡ w → out ≡ rol_row v i j
-    → MeetsShiftLaws rol_of rol_row w i j out
-laws-rol w v i j out s o p f e = laws-of rol_of w v i j out (keeps-rol w (subst (λ (n : ℕ). 0 < n) f s)) o p f e
+pub laws-rol : (w v : ℕ) (i j out : Interval) → 0 < v → IsOrdered j → v ≡ w → out ≡ rol_row v (patterns_in w i) j → MeetsShiftLaws rol_of rol_row w i j out
+laws-rol w v i j out s o f e = laws-of rol_of w v i j out (keeps-rol w (subst (λ (n : ℕ). 0 < n) f s)) o f e
 
-pub laws-ror : (w v : ℕ) (i j out : Interval) → 0 < v → IsOrdered i × IsOrdered j → IsWithin i (patterns w) → v ≡ w → out ≡ ror_row v i j
-    → MeetsShiftLaws ror_of ror_row w i j out
-laws-ror w v i j out s o p f e = laws-of ror_of w v i j out (keeps-ror w (subst (λ (n : ℕ). 0 < n) f s)) o p f e
+pub laws-ror : (w v : ℕ) (i j out : Interval) → 0 < v → IsOrdered j → v ≡ w → out ≡ ror_row v (patterns_in w i) j → MeetsShiftLaws ror_of ror_row w i j out
+laws-ror w v i j out s o f e = laws-of ror_of w v i j out (keeps-ror w (subst (λ (n : ℕ). 0 < n) f s)) o f e
 
 -- ---- SHR
 
@@ -147,8 +148,11 @@ larger-shr w (Span a b) (Span c d) o p (Span e f) (Span g n) q h m =
     span-within (shr_of w a d) (shr_of w b c) (shr_of w e n) (shr_of w f g)
     (shr-up w e a n d q.0 h.0 m.1) (shr-up w b f c g (through (pos 0) a b p.0 o) h.1 m.0)
 
-pub laws-shr : (w v : ℕ) (i j out : Interval) → IsOrdered i → IsWithin i (patterns w) → v ≡ w → out ≡ shr_row v i j
-    → MeetsShiftLaws shr_of shr_row w i j out
-laws-shr w v i j out o p f e =
-    subst (λ (out : Interval). MeetsShiftLaws shr_of shr_row w i j out) (sym (e ∙ ap (λ w. shr_row w i j) f))
-    (record { held = held-shr w i j p; larger = larger-shr w i j o p })
+pub laws-shr : (w v : ℕ) (i j out : Interval) → v ≡ w → out ≡ shr_row v (patterns_in w i) j → MeetsShiftLaws shr_of shr_row w i j out
+laws-shr w v i j out f e =
+    subst (λ (out : Interval). MeetsShiftLaws shr_of shr_row w i j out) (sym (e ∙ ap (λ w'. shr_row w' (patterns_in w i) j) f))
+    (record {
+      held = held-shr w (patterns_in w i) j (meet-right i (patterns w));
+      larger = λ k l h m. larger-shr w (patterns_in w i) j (meet-ordered i (patterns w)) (meet-right i (patterns w))
+          (patterns_in w k) l (meet-right k (patterns w)) (meet-within i k (patterns w) h) m;
+    })

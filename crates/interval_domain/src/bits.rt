@@ -1,65 +1,71 @@
-// AND, OR, XOR and NOT of intervals of bit patterns, BOOL among them.
+// AND, OR, XOR and NOT of the bit patterns in intervals, BOOL among them.
 ghost use Rattle.std.specs.Prelude.{◌≡◌, pos, ◌≤ℤ◌, ◌-ℤ◌, ◌-◌, ◌^◌};
+ghost use Rattle.iec_tables.specs.Types.{width_of};
 ghost use Rattle.interval_domain.specs.Interval as intervals;
 ghost use Rattle.interval_domain.specs.Bits as rows;
 
-use crate::interval::Interval;
+use crate::interval::{Interval, meet};
 use crate::operators::{Out, plain};
 use iec_tables::elem::Elem;
 
-/// The patterns with the bits that both have. The operands are patterns of the type: for a bit string, numbers in its range.
+/// The patterns with the bits that both have. Of each operand only what is patterns of the type counts: for a bit string, all that is
+/// in its range.
 pub fn and(t: Elem, a: Interval, b: Interval) -> Out
-    requires left { intervals.IsWithin a (rows.bits_range t) }
-    requires right { intervals.IsWithin b (rows.bits_range t) }
-    ensures raw { result.raw ≡ rows.and_row a b }
-    ensures result { result.result ≡ rows.and_row a b }
+    ensures raw { result.raw ≡ rows.and_row (rows.patterns_in (width_of t) a) (rows.patterns_in (width_of t) b) }
+    ensures result { result.result ≡ rows.and_row (rows.patterns_in (width_of t) a) (rows.patterns_in (width_of t) b) }
     ensures laws { rows.MeetsBitLaws rows.and_of rows.and_row t a b result.result }
 {
-    plain(and_bounds(a, b))
+    plain(and_bounds(patterns_in(t, a), patterns_in(t, b)))
 }
 
-/// The patterns with the bits that either has. The operands are patterns of the type: for a bit string, numbers in its range.
+/// The patterns with the bits that either has. Of each operand only what is patterns of the type counts: for a bit string, all that is
+/// in its range.
 pub fn or(t: Elem, a: Interval, b: Interval) -> Out
-    requires left { intervals.IsWithin a (rows.bits_range t) }
-    requires right { intervals.IsWithin b (rows.bits_range t) }
-    ensures raw { result.raw ≡ rows.or_row a b }
-    ensures result { result.result ≡ rows.or_row a b }
+    ensures raw { result.raw ≡ rows.or_row (rows.patterns_in (width_of t) a) (rows.patterns_in (width_of t) b) }
+    ensures result { result.result ≡ rows.or_row (rows.patterns_in (width_of t) a) (rows.patterns_in (width_of t) b) }
     ensures laws { rows.MeetsBitLaws rows.or_of rows.or_row t a b result.result }
 {
-    plain(or_bounds(a, b))
+    plain(or_bounds(patterns_in(t, a), patterns_in(t, b)))
 }
 
-/// The patterns with the bits that one of both has. The operands are patterns of the type: for a bit string, numbers in its
-/// range.
+/// The patterns with the bits that one of both has. Of each operand only what is patterns of the type counts: for a bit string, all that is
+/// in its range.
 pub fn xor(t: Elem, a: Interval, b: Interval) -> Out
-    requires left { intervals.IsWithin a (rows.bits_range t) }
-    requires right { intervals.IsWithin b (rows.bits_range t) }
-    ensures raw { result.raw ≡ rows.xor_row a b }
-    ensures result { result.result ≡ rows.xor_row a b }
+    ensures raw { result.raw ≡ rows.xor_row (rows.patterns_in (width_of t) a) (rows.patterns_in (width_of t) b) }
+    ensures result { result.result ≡ rows.xor_row (rows.patterns_in (width_of t) a) (rows.patterns_in (width_of t) b) }
     ensures laws { rows.MeetsBitLaws rows.xor_of rows.xor_row t a b result.result }
 {
-    plain(xor_bounds(a, b))
+    plain(xor_bounds(patterns_in(t, a), patterns_in(t, b)))
 }
 
-/// The patterns with each bit turned round. The operand is of patterns of the type: for a bit string, numbers in its range.
+/// The patterns with each bit turned round. Of the operand only what is patterns of the type counts: for a bit string, all that is in
+/// its range.
 pub fn not(t: Elem, a: Interval) -> Out
-    requires { intervals.IsWithin a (rows.bits_range t) }
-    ensures raw { result.raw ≡ rows.not_row t a }
-    ensures result { result.result ≡ rows.not_row t a }
+    ensures raw { result.raw ≡ rows.not_row t (rows.patterns_in (width_of t) a) }
+    ensures result { result.result ≡ rows.not_row t (rows.patterns_in (width_of t) a) }
     ensures laws { rows.MeetsNotLaws t a result.result }
 {
-    plain(not_bounds(all_ones(t), a))
+    plain(not_bounds(all_ones(t), patterns_in(t, a)))
 }
 
-/// The patterns of a type as numbers; for a bit string, its range.
-pub fn patterns_of(t: Elem) -> Interval
+// What of an interval is patterns of the type.
+pub(crate) fn patterns_in(t: Elem, i: Interval) -> Interval
+    ensures value { result ≡ rows.patterns_in (width_of t) i }
+    ensures within { intervals.IsWithin result (rows.bits_range t) }
+    ensures words { intervals.IsWithin result rows.words }
+{
+    meet(i, patterns_of(t))
+}
+
+// The patterns of a type as numbers; for a bit string, its range.
+fn patterns_of(t: Elem) -> Interval
     ensures { result ≡ rows.bits_range t }
 {
     Interval::of(0, all_ones(t))
 }
 
-/// The number whose bits are all 1.
-pub fn all_ones(t: Elem) -> i128
+// The number whose bits are all 1.
+fn all_ones(t: Elem) -> i128
     ensures { result ≡ rows.all_ones t }
 {
     match t {

@@ -1,54 +1,53 @@
-// Shifts and rotations of intervals of bit patterns.
+// Shifts and rotations of the bit patterns in intervals.
 ghost use Rattle.std.specs.Prelude.{◌≡◌, ◌<◌, ◌≤◌, ◌-◌, ◌*◌, ◌^◌, pos, ◌≤ℤ◌};
 ghost use Rattle.iec_tables.specs.Types as types;
 ghost use Rattle.interval_domain.specs.Interval as intervals;
 ghost use Rattle.interval_domain.specs.Bits as bits;
 ghost use Rattle.interval_domain.specs.Shifts as rows;
 
-use crate::bits::exact_or;
+use crate::bits::{exact_or, patterns_in};
 use crate::interval::Interval;
 use crate::operators::{Out, plain};
 use iec_tables::elem::Elem;
 
-/// The patterns moved up by the counts. The first operand is of patterns of the type: for a bit string, numbers in its range.
+/// The patterns moved up by the counts. Of the first operand only what is patterns of the type counts: for a bit string, all that
+/// is in its range.
 pub fn shl(t: Elem, a: Interval, n: Interval) -> Out
-    requires { intervals.IsWithin a (bits.bits_range t) }
-    ensures raw { result.raw ≡ rows.shl_row (types.width_of t) a n }
-    ensures result { result.result ≡ rows.shl_row (types.width_of t) a n }
+    ensures raw { result.raw ≡ rows.shl_row (types.width_of t) (bits.patterns_in (types.width_of t) a) n }
+    ensures result { result.result ≡ rows.shl_row (types.width_of t) (bits.patterns_in (types.width_of t) a) n }
     ensures laws { rows.MeetsShiftLaws rows.shl_of rows.shl_row (types.width_of t) a n result.result }
 {
-    plain(shl_bounds(width(t), a, n))
+    plain(shl_bounds(width(t), patterns_in(t, a), n))
 }
 
-/// The patterns moved down by the counts. The first operand is of patterns of the type: for a bit string, numbers in its range.
+/// The patterns moved down by the counts. Of the first operand only what is patterns of the type counts: for a bit string, all that
+/// is in its range.
 pub fn shr(t: Elem, a: Interval, n: Interval) -> Out
-    requires { intervals.IsWithin a (bits.bits_range t) }
-    ensures raw { result.raw ≡ rows.shr_row (types.width_of t) a n }
-    ensures result { result.result ≡ rows.shr_row (types.width_of t) a n }
+    ensures raw { result.raw ≡ rows.shr_row (types.width_of t) (bits.patterns_in (types.width_of t) a) n }
+    ensures result { result.result ≡ rows.shr_row (types.width_of t) (bits.patterns_in (types.width_of t) a) n }
     ensures laws { rows.MeetsShiftLaws rows.shr_of rows.shr_row (types.width_of t) a n result.result }
 {
-    plain(shr_bounds(width(t), a, n))
+    plain(shr_bounds(width(t), patterns_in(t, a), n))
 }
 
-/// The patterns turned up by the counts. The first operand is of patterns of the type: for a bit string, numbers in its range.
+/// The patterns turned up by the counts. Of the first operand only what is patterns of the type counts: for a bit string, all that
+/// is in its range.
 pub fn rol(t: Elem, a: Interval, n: Interval) -> Out
-    requires { intervals.IsWithin a (bits.bits_range t) }
-    ensures raw { result.raw ≡ rows.rol_row (types.width_of t) a n }
-    ensures result { result.result ≡ rows.rol_row (types.width_of t) a n }
+    ensures raw { result.raw ≡ rows.rol_row (types.width_of t) (bits.patterns_in (types.width_of t) a) n }
+    ensures result { result.result ≡ rows.rol_row (types.width_of t) (bits.patterns_in (types.width_of t) a) n }
     ensures laws { rows.MeetsShiftLaws rows.rol_of rows.rol_row (types.width_of t) a n result.result }
 {
-    plain(rol_bounds(width(t), a, n))
+    plain(rol_bounds(width(t), patterns_in(t, a), n))
 }
 
-/// The patterns turned down by the counts. The first operand is of patterns of the type: for a bit string, numbers in its
-/// range.
+/// The patterns turned down by the counts. Of the first operand only what is patterns of the type counts: for a bit string, all that
+/// is in its range.
 pub fn ror(t: Elem, a: Interval, n: Interval) -> Out
-    requires { intervals.IsWithin a (bits.bits_range t) }
-    ensures raw { result.raw ≡ rows.ror_row (types.width_of t) a n }
-    ensures result { result.result ≡ rows.ror_row (types.width_of t) a n }
+    ensures raw { result.raw ≡ rows.ror_row (types.width_of t) (bits.patterns_in (types.width_of t) a) n }
+    ensures result { result.result ≡ rows.ror_row (types.width_of t) (bits.patterns_in (types.width_of t) a) n }
     ensures laws { rows.MeetsShiftLaws rows.ror_of rows.ror_row (types.width_of t) a n result.result }
 {
-    plain(ror_bounds(width(t), a, n))
+    plain(ror_bounds(width(t), patterns_in(t, a), n))
 }
 
 /// How many bits a type has.
