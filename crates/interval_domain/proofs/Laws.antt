@@ -6,7 +6,7 @@ use Rattle.iec_tables.specs.declared.elem.Elem.{Elem}
 use Rattle.iec_tables.specs.declared.elem.Elem.TheVariants.{Sint, Int, Dint, Lint, Usint, Uint, Udint, Ulint, Bool, Byte, Word, Dword, Lword, Time}
 use Rattle.iec_tables.specs.Types as types
 use Rattle.interval_domain.specs.Interval.{Interval, Empty, Span, Holds, IsWithin, span, meet}
-use Rattle.interval_domain.specs.Operators.{kept, range_of, sum_of, difference_of, add_raw, sub_raw, typed, HoldsResults, HoldsTyped, IsLeast, GrowsWith, MeetsLaws}
+use Rattle.interval_domain.specs.Operators.{kept, range_of, sum_of, difference_of, add_raw, sub_raw, HoldsResults, IsLeast, GrowsWith}
 use Rattle.interval_domain.specs.Stored.{span-ordered, span-reversed}
 use Rattle.interval_domain.proofs.Bounds.{kept-le}
 
@@ -60,10 +60,6 @@ kept-between l h z p q r s = omega (arith, ints, clamps)
 
 pub kept-typed : (t : Elem) (z : ℤ) → Holds (range_of t) z → kept z ≡ z
 kept-typed t z h = kept-between (types.low_of t) (types.high_of t) z (range-kept t).0 (range-kept t).1 h.0 h.1
-
-pub held-typed : (op : ℤ → ℤ → ℤ) (t : Elem) (a b raw : Interval) → HoldsResults op a b raw → HoldsTyped op t a b (typed t raw)
-held-typed op t a b raw all x y h k r =
-    meet-holds raw (range_of t) (op x y) (subst (λ (z : ℤ). Holds raw z) (kept-typed t (op x y) r) (all x y h k)) r
 
 -- ---- sums and differences
 
@@ -127,25 +123,3 @@ least-sub i j r a b c d p q e =
 
 pub least-empty : (op : ℤ → ℤ → ℤ) (i j r : Interval) → r ≡ Empty → IsLeast op i j r
 least-empty op i j r e = subst (λ (r : Interval). IsLeast op i j r) (sym e) (λ k all. tt)
-
--- ---- all laws together
-
-laws : (op : ℤ → ℤ → ℤ) (row : Interval → Interval → Interval) (t : Elem) (a b : Interval)
-    → HoldsResults op a b (row a b) → IsLeast op a b (row a b) → GrowsWith row a b (row a b)
-    → MeetsLaws op row t a b (row a b) (typed t (row a b))
-laws op row t a b all least larger = record {
-  held = all;
-  least = least;
-  held_typed = held-typed op t a b (row a b) all;
-  larger = larger;
-  larger_typed = λ c d h k. meet-within (row a b) (row c d) (range_of t) (larger c d h k);
-}
-
--- for results that are given by equations
-pub laws-at : (op : ℤ → ℤ → ℤ) (row : Interval → Interval → Interval) (t : Elem) (a b raw out : Interval)
-    → HoldsResults op a b (row a b) → GrowsWith row a b (row a b)
-    → IsLeast op a b raw → raw ≡ row a b → out ≡ typed t (row a b) → MeetsLaws op row t a b raw out
-laws-at op row t a b raw out all larger least e f =
-    subst (λ (raw : Interval). MeetsLaws op row t a b raw out) (sym e)
-    (subst (λ (out : Interval). MeetsLaws op row t a b (row a b) out) (sym f)
-    (laws op row t a b all (subst (λ (r : Interval). IsLeast op a b r) e least) larger))

@@ -11,6 +11,7 @@ pub mod Remainders
 pub mod Rounding
 pub mod Searching
 pub mod Sets
+pub mod Shapes
 pub mod Signs
 pub mod Tests
 pub mod Turning

@@ -6,7 +6,7 @@ use Rattle.std.specs.Int.{int_max, int_min}
 use Rattle.std.specs.Ordering.{int_eq}
 use Rattle.iec_tables.specs.declared.elem.Elem.{Elem}
 use Rattle.iec_tables.specs.Types.{width_of}
-use Rattle.interval_domain.specs.Interval.{Interval, Empty, Span, Holds, IsWithin, span, meet}
+use Rattle.interval_domain.specs.Interval.{Interval, Empty, Span, IsWithin, span, meet}
 use Rattle.interval_domain.specs.Selection.{HoldsAll}
 
 -- the number whose bits are all 1
@@ -88,19 +88,16 @@ mirrored greatest (Span a b) = Span (greatest -ℤ b) (greatest -ℤ a)
 abbrev pub not_row : Elem → Interval → Interval
 not_row t i = mirrored (all_ones t) i
 
--- ---- laws
+-- ---- the rows over what is patterns of the type in the operands
+
+abbrev pub cut_row : (Interval → Interval → Interval) → Elem → Interval → Interval → Interval
+cut_row row t i j = row (patterns_in (width_of t) i) (patterns_in (width_of t) j)
+
+abbrev pub cut_not_row : Elem → Interval → Interval
+cut_not_row t i = not_row t (patterns_in (width_of t) i)
+
+-- ---- a part of the laws
 
 -- No smaller interval holds all results. So on BOOL the rows above are the values that occur.
 abbrev pub IsLeastOfAll : (ℤ → ℤ → ℤ) → Interval → Interval → Interval → Type 0
 IsLeastOfAll op a b out = (j : Interval) → HoldsAll op a b j → IsWithin out j
-
--- of AND, OR and XOR, over the patterns in the operands
-pub record MeetsBitLaws (op : ℤ → ℤ → ℤ) (row : Interval → Interval → Interval) (t : Elem) (a b out : Interval) : Type 0 where
-  pub held : HoldsAll op (patterns_in (width_of t) a) (patterns_in (width_of t) b) out
-  pub larger : (c d : Interval) → IsWithin a c → IsWithin b d → IsWithin out (row (patterns_in (width_of t) c) (patterns_in (width_of t) d))
-  pub occurring : width_of t ≡ 1 → IsLeastOfAll op (patterns_in (width_of t) a) (patterns_in (width_of t) b) out
-
--- of NOT, over the patterns in the operand
-pub record MeetsNotLaws (t : Elem) (a out : Interval) : Type 0 where
-  pub held : (x : ℤ) → Holds (patterns_in (width_of t) a) x → Holds out (not_of t x)
-  pub larger : (c : Interval) → IsWithin a c → IsWithin out (not_row t (patterns_in (width_of t) c))

@@ -3,6 +3,7 @@ ghost use Rattle.std.specs.Prelude.{◌≡◌, pos, ◌≤ℤ◌, ◌-ℤ◌, �
 ghost use Rattle.iec_tables.specs.Types.{width_of};
 ghost use Rattle.interval_domain.specs.Interval as intervals;
 ghost use Rattle.interval_domain.specs.Bits as rows;
+ghost use Rattle.interval_domain.specs.Laws as laws;
 
 use crate::interval::{Interval, meet};
 use crate::operators::{Out, plain};
@@ -13,7 +14,9 @@ use iec_tables::elem::Elem;
 pub fn and(t: Elem, a: Interval, b: Interval) -> Out
     ensures raw { result.raw ≡ rows.and_row (rows.patterns_in (width_of t) a) (rows.patterns_in (width_of t) b) }
     ensures result { result.result ≡ rows.and_row (rows.patterns_in (width_of t) a) (rows.patterns_in (width_of t) b) }
-    ensures laws { rows.MeetsBitLaws rows.and_of rows.and_row t a b result.result }
+    ensures sound { laws.IsSound (laws.of_two rows.and_of (rows.patterns_in (width_of t) a) (rows.patterns_in (width_of t) b)) laws.same laws.any result.raw result.result }
+    ensures best { width_of t ≡ 1 → laws.IsBest (laws.of_two rows.and_of (rows.patterns_in (width_of t) a) (rows.patterns_in (width_of t) b)) laws.same result.raw }
+    ensures monotone { laws.IsMonotone (laws.with_two (rows.cut_row rows.and_row t) (rows.cut_row rows.and_row t) a b) result.raw result.result }
 {
     plain(and_bounds(patterns_in(t, a), patterns_in(t, b)))
 }
@@ -23,7 +26,9 @@ pub fn and(t: Elem, a: Interval, b: Interval) -> Out
 pub fn or(t: Elem, a: Interval, b: Interval) -> Out
     ensures raw { result.raw ≡ rows.or_row (rows.patterns_in (width_of t) a) (rows.patterns_in (width_of t) b) }
     ensures result { result.result ≡ rows.or_row (rows.patterns_in (width_of t) a) (rows.patterns_in (width_of t) b) }
-    ensures laws { rows.MeetsBitLaws rows.or_of rows.or_row t a b result.result }
+    ensures sound { laws.IsSound (laws.of_two rows.or_of (rows.patterns_in (width_of t) a) (rows.patterns_in (width_of t) b)) laws.same laws.any result.raw result.result }
+    ensures best { width_of t ≡ 1 → laws.IsBest (laws.of_two rows.or_of (rows.patterns_in (width_of t) a) (rows.patterns_in (width_of t) b)) laws.same result.raw }
+    ensures monotone { laws.IsMonotone (laws.with_two (rows.cut_row rows.or_row t) (rows.cut_row rows.or_row t) a b) result.raw result.result }
 {
     plain(or_bounds(patterns_in(t, a), patterns_in(t, b)))
 }
@@ -33,7 +38,9 @@ pub fn or(t: Elem, a: Interval, b: Interval) -> Out
 pub fn xor(t: Elem, a: Interval, b: Interval) -> Out
     ensures raw { result.raw ≡ rows.xor_row (rows.patterns_in (width_of t) a) (rows.patterns_in (width_of t) b) }
     ensures result { result.result ≡ rows.xor_row (rows.patterns_in (width_of t) a) (rows.patterns_in (width_of t) b) }
-    ensures laws { rows.MeetsBitLaws rows.xor_of rows.xor_row t a b result.result }
+    ensures sound { laws.IsSound (laws.of_two rows.xor_of (rows.patterns_in (width_of t) a) (rows.patterns_in (width_of t) b)) laws.same laws.any result.raw result.result }
+    ensures best { width_of t ≡ 1 → laws.IsBest (laws.of_two rows.xor_of (rows.patterns_in (width_of t) a) (rows.patterns_in (width_of t) b)) laws.same result.raw }
+    ensures monotone { laws.IsMonotone (laws.with_two (rows.cut_row rows.xor_row t) (rows.cut_row rows.xor_row t) a b) result.raw result.result }
 {
     plain(xor_bounds(patterns_in(t, a), patterns_in(t, b)))
 }
@@ -43,7 +50,8 @@ pub fn xor(t: Elem, a: Interval, b: Interval) -> Out
 pub fn not(t: Elem, a: Interval) -> Out
     ensures raw { result.raw ≡ rows.not_row t (rows.patterns_in (width_of t) a) }
     ensures result { result.result ≡ rows.not_row t (rows.patterns_in (width_of t) a) }
-    ensures laws { rows.MeetsNotLaws t a result.result }
+    ensures sound { laws.IsSound (laws.of_one (rows.not_of t) (rows.patterns_in (width_of t) a)) laws.same laws.any result.raw result.result }
+    ensures monotone { laws.IsMonotone (laws.with_one (rows.cut_not_row t) (rows.cut_not_row t) a) result.raw result.result }
 {
     plain(not_bounds(all_ones(t), patterns_in(t, a)))
 }

@@ -4,6 +4,7 @@ ghost use Rattle.iec_tables.specs.Types as types;
 ghost use Rattle.interval_domain.specs.Interval as intervals;
 ghost use Rattle.interval_domain.specs.Bits as bits;
 ghost use Rattle.interval_domain.specs.Shifts as rows;
+ghost use Rattle.interval_domain.specs.Laws as laws;
 
 use crate::bits::{exact_or, patterns_in};
 use crate::interval::Interval;
@@ -15,7 +16,8 @@ use iec_tables::elem::Elem;
 pub fn shl(t: Elem, a: Interval, n: Interval) -> Out
     ensures raw { result.raw ≡ rows.shl_row (types.width_of t) (bits.patterns_in (types.width_of t) a) n }
     ensures result { result.result ≡ rows.shl_row (types.width_of t) (bits.patterns_in (types.width_of t) a) n }
-    ensures laws { rows.MeetsShiftLaws rows.shl_of rows.shl_row (types.width_of t) a n result.result }
+    ensures sound { laws.IsSound (laws.of_two (rows.shl_of (types.width_of t)) (bits.patterns_in (types.width_of t) a) n) laws.same laws.any result.raw result.result }
+    ensures monotone { laws.IsMonotone (laws.with_two (rows.cut_row rows.shl_row (types.width_of t)) (rows.cut_row rows.shl_row (types.width_of t)) a n) result.raw result.result }
 {
     plain(shl_bounds(width(t), patterns_in(t, a), n))
 }
@@ -25,7 +27,8 @@ pub fn shl(t: Elem, a: Interval, n: Interval) -> Out
 pub fn shr(t: Elem, a: Interval, n: Interval) -> Out
     ensures raw { result.raw ≡ rows.shr_row (types.width_of t) (bits.patterns_in (types.width_of t) a) n }
     ensures result { result.result ≡ rows.shr_row (types.width_of t) (bits.patterns_in (types.width_of t) a) n }
-    ensures laws { rows.MeetsShiftLaws rows.shr_of rows.shr_row (types.width_of t) a n result.result }
+    ensures sound { laws.IsSound (laws.of_two (rows.shr_of (types.width_of t)) (bits.patterns_in (types.width_of t) a) n) laws.same laws.any result.raw result.result }
+    ensures monotone { laws.IsMonotone (laws.with_two (rows.cut_row rows.shr_row (types.width_of t)) (rows.cut_row rows.shr_row (types.width_of t)) a n) result.raw result.result }
 {
     plain(shr_bounds(width(t), patterns_in(t, a), n))
 }
@@ -35,7 +38,8 @@ pub fn shr(t: Elem, a: Interval, n: Interval) -> Out
 pub fn rol(t: Elem, a: Interval, n: Interval) -> Out
     ensures raw { result.raw ≡ rows.rol_row (types.width_of t) (bits.patterns_in (types.width_of t) a) n }
     ensures result { result.result ≡ rows.rol_row (types.width_of t) (bits.patterns_in (types.width_of t) a) n }
-    ensures laws { rows.MeetsShiftLaws rows.rol_of rows.rol_row (types.width_of t) a n result.result }
+    ensures sound { laws.IsSound (laws.of_two (rows.rol_of (types.width_of t)) (bits.patterns_in (types.width_of t) a) n) laws.same laws.any result.raw result.result }
+    ensures monotone { laws.IsMonotone (laws.with_two (rows.cut_row rows.rol_row (types.width_of t)) (rows.cut_row rows.rol_row (types.width_of t)) a n) result.raw result.result }
 {
     plain(rol_bounds(width(t), patterns_in(t, a), n))
 }
@@ -45,7 +49,8 @@ pub fn rol(t: Elem, a: Interval, n: Interval) -> Out
 pub fn ror(t: Elem, a: Interval, n: Interval) -> Out
     ensures raw { result.raw ≡ rows.ror_row (types.width_of t) (bits.patterns_in (types.width_of t) a) n }
     ensures result { result.result ≡ rows.ror_row (types.width_of t) (bits.patterns_in (types.width_of t) a) n }
-    ensures laws { rows.MeetsShiftLaws rows.ror_of rows.ror_row (types.width_of t) a n result.result }
+    ensures sound { laws.IsSound (laws.of_two (rows.ror_of (types.width_of t)) (bits.patterns_in (types.width_of t) a) n) laws.same laws.any result.raw result.result }
+    ensures monotone { laws.IsMonotone (laws.with_two (rows.cut_row rows.ror_row (types.width_of t)) (rows.cut_row rows.ror_row (types.width_of t)) a n) result.raw result.result }
 {
     plain(ror_bounds(width(t), patterns_in(t, a), n))
 }
