@@ -6,7 +6,7 @@ use Rattle.interval_domain.specs.Interval.{Interval, Empty, Span, Holds, IsWithi
 use Rattle.interval_domain.specs.Operators.{kept}
 use Rattle.interval_domain.specs.Arithmetic.{hull_of}
 use Rattle.interval_domain.specs.Stored.{span-ordered, span-reversed}
-use Rattle.interval_domain.proofs.Bounds.{kept-le}
+use Rattle.interval_domain.proofs.Bounds.{kept-le, through}
 
 -- z lies between p and q, in either order
 abbrev pub IsBetween : ℤ → ℤ → ℤ → Type 0
@@ -88,9 +88,6 @@ hull_of-spans p q r s =
     let low = least-below p q r s in
     let high = greatest-above p q r s in
     span-ordered (int_min (int_min p q) (int_min r s)) (int_max (int_max p q) (int_max r s)) (through (int_min (int_min p q) (int_min r s)) p (int_max (int_max p q) (int_max r s)) low.0 high.0)
-  where
-    through : (a b c : ℤ) → a ≤ℤ b → b ≤ℤ c → a ≤ℤ c
-    through a b c h k = omega (arith, ints)
 
 -- a span within an interval, which may be out of order
 pub span-in : (a b c d : ℤ) → c ≤ℤ a → b ≤ℤ d → IsWithin (span a b) (Span c d)

@@ -8,7 +8,7 @@ use Rattle.iec_tables.specs.Types as types
 use Rattle.interval_domain.specs.Interval.{Interval, Empty, Span, Holds, IsWithin, span, meet}
 use Rattle.interval_domain.specs.Operators.{kept, range_of, sum_of, difference_of, add_raw, sub_raw, HoldsResults, IsLeast, GrowsWith}
 use Rattle.interval_domain.specs.Stored.{span-ordered, span-reversed}
-use Rattle.interval_domain.proofs.Bounds.{kept-le}
+use Rattle.interval_domain.proofs.Bounds.{kept-le, both-ends}
 
 -- ---- spans and meets
 
@@ -97,17 +97,13 @@ larger-sub (Span a b) (Span c d) (Span e f) (Span g i) h m =
 abbrev pub IsSpan : Interval → ℤ → ℤ → Type 0
 IsSpan i a b = (i ≡ Span a b) × (a ≤ℤ b)
 
-ends-within : (l h : ℤ) (j : Interval) → Holds j l → Holds j h → IsWithin (Span l h) j
-ends-within l h Empty p q = absurd p
-ends-within l h (Span a b) p q = (p.0, q.1)
-
 spans-least-add : (a b c d : ℤ) → a ≤ℤ b → c ≤ℤ d → IsLeast sum_of (Span a b) (Span c d) (add_raw (Span a b) (Span c d))
 spans-least-add a b c d p q j all =
-    ends-within _ _ j (all a c (omega (arith, ints), p) (omega (arith, ints), q)) (all b d (p, omega (arith, ints)) (q, omega (arith, ints)))
+    both-ends _ _ j (all a c (omega (arith, ints), p) (omega (arith, ints), q)) (all b d (p, omega (arith, ints)) (q, omega (arith, ints)))
 
 spans-least-sub : (a b c d : ℤ) → a ≤ℤ b → c ≤ℤ d → IsLeast difference_of (Span a b) (Span c d) (sub_raw (Span a b) (Span c d))
 spans-least-sub a b c d p q j all =
-    ends-within _ _ j (all a d (omega (arith, ints), p) (q, omega (arith, ints))) (all b c (p, omega (arith, ints)) (omega (arith, ints), q))
+    both-ends _ _ j (all a d (omega (arith, ints), p) (q, omega (arith, ints))) (all b c (p, omega (arith, ints)) (omega (arith, ints), q))
 
 pub least-add : (i j r : Interval) (a b c d : ℤ) → IsSpan i a b → IsSpan j c d → r ≡ add_raw i j → IsLeast sum_of i j r
 least-add i j r a b c d p q e =

@@ -19,6 +19,7 @@ use Rattle.interval_domain.specs.Stored.{span-ordered}
 use Rattle.interval_domain.proofs.Laws.{span-holds, span-within, meet-within}
 use Rattle.interval_domain.proofs.Between.{holds-within, meet-right, meet-ordered}
 use Rattle.interval_domain.proofs.Tests.{eq-is, eq-yes}
+use Rattle.interval_domain.proofs.Bounds.{through, both-ends}
 
 -- ---- binary digits
 
@@ -368,9 +369,6 @@ greater-natural a b d h k = omega (arith, ints, clamps)
 zero-le : pos 0 ≤ℤ pos 0
 zero-le = omega (arith, ints)
 
-through : (a b c : ℤ) → a ≤ℤ b → b ≤ℤ c → a ≤ℤ c
-through a b c h k = omega (arith, ints)
-
 larger-and : (i j : Interval) → IsOrdered i → IsOrdered j → IsWithin i words → IsWithin j words
     → (k l : Interval) → IsWithin i k → IsWithin j l → IsWithin (and_row i j) (and_row k l)
 larger-and Empty j o p v w k l h m = tt
@@ -432,10 +430,6 @@ truths-of a b o h k =
         | inr f ↦ subst (λ (i : Interval). IsTruths i) (λ n. Span (sym e n) (sym f n)) always
       ]
     ]
-
-both-ends : (l h : ℤ) (j : Interval) → Holds j l → Holds j h → IsWithin (Span l h) j
-both-ends l h Empty p q = absurd p
-both-ends l h (Span a b) p q = (p.0, q.1)
 
 holds-zero : Holds (Span (pos 0) (pos 0)) (pos 0)
 holds-zero = (omega (arith, ints), omega (arith, ints))

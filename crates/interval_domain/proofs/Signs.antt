@@ -6,7 +6,7 @@ use Rattle.interval_domain.specs.Interval.{Interval, Empty, Span, Holds, IsWithi
 use Rattle.interval_domain.specs.Operators.{kept}
 use Rattle.interval_domain.specs.Arithmetic.{negation_of, size_of, neg_raw, abs_raw, HoldsImages}
 use Rattle.interval_domain.specs.Stored.{span-ordered}
-use Rattle.interval_domain.proofs.Bounds.{kept-le}
+use Rattle.interval_domain.proofs.Bounds.{kept-le, both-ends}
 use Rattle.interval_domain.proofs.Between.{holds-within, ordered-low, ordered-high}
 
 -- the row of a larger operand holds all that the operand's has to hold
@@ -26,10 +26,6 @@ pub held-neg : (i : Interval) → HoldsImages negation_of i (neg_raw i)
 held-neg Empty x h = absurd h
 held-neg (Span a b) x h =
     (kept-le (neg_ℤ b) (neg_ℤ x) (omega (arith, ints)), kept-le (neg_ℤ x) (neg_ℤ a) (omega (arith, ints)))
-
-both-ends : (l h : ℤ) (j : Interval) → Holds j l → Holds j h → IsWithin (Span l h) j
-both-ends l h Empty p q = absurd p
-both-ends l h (Span a b) p q = (p.0, q.1)
 
 pub least-neg : (i : Interval) → IsOrdered i → (j : Interval) → HoldsImages negation_of i j → IsWithin (neg_raw i) j
 least-neg Empty o j all = tt

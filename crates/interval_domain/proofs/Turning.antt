@@ -11,6 +11,7 @@ use Rattle.interval_domain.proofs.Laws.{span-holds, span-within, meet-within}
 use Rattle.interval_domain.proofs.Between.{holds-within, meet-right, meet-ordered}
 use Rattle.interval_domain.proofs.Quotients.{div-up, div-down}
 use Rattle.interval_domain.proofs.Patterns.{exact_or-held, exact_or-larger, size-up}
+use Rattle.interval_domain.proofs.Bounds.{through}
 
 -- ---- patterns
 
@@ -74,9 +75,6 @@ moved-held op w keeps (Span a b) (Span c d) p x n h k =
 
 same-within : (z : ℤ) → z ≤ℤ z
 same-within z = omega (arith, ints)
-
-through : (a b c : ℤ) → a ≤ℤ b → b ≤ℤ c → a ≤ℤ c
-through a b c h k = omega (arith, ints)
 
 moved-larger : (op : ℕ → ℤ → ℤ → ℤ) (w : ℕ) → KeepsPatterns op w → (i j : Interval) → IsOrdered i → IsOrdered j → IsWithin i (patterns w)
     → (k l : Interval) → IsWithin i k → IsWithin j l → IsWithin (moved_row op w i j) (moved_row op w k l)

@@ -13,9 +13,12 @@ use iec_tables::elem::Elem;
 pub fn mul(t: Elem, a: Interval, b: Interval) -> Out
     ensures raw { result.raw ≡ arithmetic.mul_raw a b }
     ensures result { result.result ≡ rows.typed t (arithmetic.mul_raw a b) }
-    ensures sound { laws.IsSound (laws.of_two arithmetic.product_of a b) rows.kept (laws.fits t) result.raw result.result }
+    ensures sound { laws.IsSound (laws.of_two arithmetic.product_of a b) rows.kept (laws.fits t)
+        result.raw result.result }
     ensures best { laws.IsBest (laws.of_two arithmetic.product_of a b) rows.kept result.raw }
-    ensures monotone { laws.IsMonotone (laws.with_two arithmetic.mul_raw (λ c d. rows.typed t (arithmetic.mul_raw c d)) a b) result.raw result.result }
+    ensures monotone { laws.IsMonotone
+        (laws.with_two arithmetic.mul_raw (λ c d. rows.typed t (arithmetic.mul_raw c d)) a b) result.raw
+        result.result }
 {
     typed(t, mul_bounds(a, b))
 }
@@ -24,9 +27,12 @@ pub fn mul(t: Elem, a: Interval, b: Interval) -> Out
 pub fn div(t: Elem, a: Interval, b: Interval) -> Out
     ensures raw { result.raw ≡ arithmetic.div_raw a b }
     ensures result { result.result ≡ rows.typed t (arithmetic.div_raw a b) }
-    ensures sound { laws.IsSound (laws.of_division arithmetic.quotient_of a b) rows.kept (laws.fits t) result.raw result.result }
+    ensures sound { laws.IsSound (laws.of_division arithmetic.quotient_of a b) rows.kept (laws.fits t)
+        result.raw result.result }
     ensures best { laws.IsBest (laws.of_division arithmetic.quotient_of a b) rows.kept result.raw }
-    ensures monotone { laws.IsMonotone (laws.with_two arithmetic.div_raw (λ c d. rows.typed t (arithmetic.div_raw c d)) a b) result.raw result.result }
+    ensures monotone { laws.IsMonotone
+        (laws.with_two arithmetic.div_raw (λ c d. rows.typed t (arithmetic.div_raw c d)) a b) result.raw
+        result.result }
 {
     typed(t, div_bounds(a, b))
 }
@@ -35,8 +41,10 @@ pub fn div(t: Elem, a: Interval, b: Interval) -> Out
 pub fn modulo(_t: Elem, a: Interval, b: Interval) -> Out
     ensures raw { result.raw ≡ arithmetic.modulo_row a b }
     ensures result { result.result ≡ arithmetic.modulo_row a b }
-    ensures sound { laws.IsSound (laws.of_division arithmetic.remainder_of a b) laws.same laws.any result.raw result.result }
-    ensures monotone { laws.IsMonotone (laws.with_two arithmetic.modulo_row arithmetic.modulo_row a b) result.raw result.result }
+    ensures sound { laws.IsSound (laws.of_division arithmetic.remainder_of a b) laws.same laws.any
+        result.raw result.result }
+    ensures monotone { laws.IsMonotone (laws.with_two arithmetic.modulo_row arithmetic.modulo_row a b)
+        result.raw result.result }
 {
     plain(modulo_bounds(a, b))
 }
@@ -45,9 +53,12 @@ pub fn modulo(_t: Elem, a: Interval, b: Interval) -> Out
 pub fn neg(t: Elem, a: Interval) -> Out
     ensures raw { result.raw ≡ arithmetic.neg_raw a }
     ensures result { result.result ≡ rows.typed t (arithmetic.neg_raw a) }
-    ensures sound { laws.IsSound (laws.of_one arithmetic.negation_of a) rows.kept (laws.fits t) result.raw result.result }
+    ensures sound { laws.IsSound (laws.of_one arithmetic.negation_of a) rows.kept (laws.fits t)
+        result.raw result.result }
     ensures best { laws.IsBest (laws.of_one arithmetic.negation_of a) rows.kept result.raw }
-    ensures monotone { laws.IsMonotone (laws.with_one arithmetic.neg_raw (λ c. rows.typed t (arithmetic.neg_raw c)) a) result.raw result.result }
+    ensures monotone { laws.IsMonotone
+        (laws.with_one arithmetic.neg_raw (λ c. rows.typed t (arithmetic.neg_raw c)) a) result.raw
+        result.result }
 {
     typed(t, neg_bounds(a))
 }
@@ -56,9 +67,12 @@ pub fn neg(t: Elem, a: Interval) -> Out
 pub fn abs(t: Elem, a: Interval) -> Out
     ensures raw { result.raw ≡ arithmetic.abs_raw a }
     ensures result { result.result ≡ rows.typed t (arithmetic.abs_raw a) }
-    ensures sound { laws.IsSound (laws.of_one arithmetic.size_of a) rows.kept (laws.fits t) result.raw result.result }
+    ensures sound { laws.IsSound (laws.of_one arithmetic.size_of a) rows.kept (laws.fits t) result.raw
+        result.result }
     ensures best { laws.IsBest (laws.of_one arithmetic.size_of a) rows.kept result.raw }
-    ensures monotone { laws.IsMonotone (laws.with_one arithmetic.abs_raw (λ c. rows.typed t (arithmetic.abs_raw c)) a) result.raw result.result }
+    ensures monotone { laws.IsMonotone
+        (laws.with_one arithmetic.abs_raw (λ c. rows.typed t (arithmetic.abs_raw c)) a) result.raw
+        result.result }
 {
     typed(t, abs_bounds(a))
 }

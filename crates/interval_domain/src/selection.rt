@@ -13,8 +13,10 @@ use iec_tables::elem::Elem;
 pub fn min(_t: Elem, a: Interval, b: Interval) -> Out
     ensures raw { result.raw ≡ selection.min_row a b }
     ensures result { result.result ≡ selection.min_row a b }
-    ensures sound { laws.IsSound (laws.of_two selection.least_of a b) laws.same laws.any result.raw result.result }
-    ensures monotone { laws.IsMonotone (laws.with_two selection.min_row selection.min_row a b) result.raw result.result }
+    ensures sound { laws.IsSound (laws.of_two selection.least_of a b) laws.same laws.any result.raw
+        result.result }
+    ensures monotone { laws.IsMonotone (laws.with_two selection.min_row selection.min_row a b)
+        result.raw result.result }
 {
     plain(min_bounds(a, b))
 }
@@ -23,8 +25,10 @@ pub fn min(_t: Elem, a: Interval, b: Interval) -> Out
 pub fn max(_t: Elem, a: Interval, b: Interval) -> Out
     ensures raw { result.raw ≡ selection.max_row a b }
     ensures result { result.result ≡ selection.max_row a b }
-    ensures sound { laws.IsSound (laws.of_two selection.greatest_of a b) laws.same laws.any result.raw result.result }
-    ensures monotone { laws.IsMonotone (laws.with_two selection.max_row selection.max_row a b) result.raw result.result }
+    ensures sound { laws.IsSound (laws.of_two selection.greatest_of a b) laws.same laws.any result.raw
+        result.result }
+    ensures monotone { laws.IsMonotone (laws.with_two selection.max_row selection.max_row a b)
+        result.raw result.result }
 {
     plain(max_bounds(a, b))
 }
@@ -33,8 +37,10 @@ pub fn max(_t: Elem, a: Interval, b: Interval) -> Out
 pub fn limit(_t: Elem, mn: Interval, a: Interval, mx: Interval) -> Out
     ensures raw { result.raw ≡ selection.limit_row mn a mx }
     ensures result { result.result ≡ selection.limit_row mn a mx }
-    ensures sound { laws.IsSound (laws.of_three selection.limited mn a mx) laws.same laws.any result.raw result.result }
-    ensures monotone { laws.IsMonotone (laws.with_three selection.limit_row selection.limit_row mn a mx) result.raw result.result }
+    ensures sound { laws.IsSound (laws.of_three selection.limited mn a mx) laws.same laws.any result.raw
+        result.result }
+    ensures monotone { laws.IsMonotone (laws.with_three selection.limit_row selection.limit_row mn a mx)
+        result.raw result.result }
 {
     plain(min_bounds(max_bounds(a, mn), mx))
 }
@@ -44,8 +50,10 @@ pub fn limit(_t: Elem, mn: Interval, a: Interval, mx: Interval) -> Out
 pub fn sel(_t: Elem, g: Interval, in0: Interval, in1: Interval) -> Out
     ensures raw { result.raw ≡ selection.sel_row g in0 in1 }
     ensures result { result.result ≡ selection.sel_row g in0 in1 }
-    ensures sound { laws.IsSound (laws.of_three selection.chosen g in0 in1) laws.same laws.any result.raw result.result }
-    ensures monotone { laws.IsMonotone (laws.with_three selection.sel_row selection.sel_row g in0 in1) result.raw result.result }
+    ensures sound { laws.IsSound (laws.of_three selection.chosen g in0 in1) laws.same laws.any
+        result.raw result.result }
+    ensures monotone { laws.IsMonotone (laws.with_three selection.sel_row selection.sel_row g in0 in1)
+        result.raw result.result }
 {
     plain(chosen(g, in0, in1))
 }
@@ -55,7 +63,8 @@ pub fn convert(_from: Elem, to: Elem, a: Interval) -> Out
     ensures raw { result.raw ≡ a }
     ensures result { result.result ≡ rows.typed to a }
     ensures sound { laws.IsSound (laws.of_one laws.same a) laws.same (laws.fits to) result.raw result.result }
-    ensures monotone { laws.IsMonotone (laws.with_one laws.whole (λ c. rows.typed to c) a) result.raw result.result }
+    ensures monotone { laws.IsMonotone (laws.with_one laws.whole (λ c. rows.typed to c) a) result.raw
+        result.result }
 {
     typed(to, a)
 }
