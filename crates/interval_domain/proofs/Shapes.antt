@@ -87,11 +87,6 @@ best-plain-two op a b row raw e least = record {
   least = λ j all. subst (λ (i : Interval). IsWithin i j) (sym e) (least j (λ x y h k. all (op x y) (x, y, h, k, refl)));
 }
 
-pub best-converted : (a raw : Interval) → raw ≡ a → ((j : Interval) → ((x : ℤ) → Holds a x → Holds j x) → IsWithin a j) → IsBest (of_one same a) same raw
-best-converted a raw e least = record {
-  least = λ j all. subst (λ (i : Interval). IsWithin i j) (sym e) (least j (λ x h. all x (x, h, refl)));
-}
-
 -- ---- monotone
 
 within-by : (i j k l : Interval) → i ≡ k → j ≡ l → IsWithin k l → IsWithin i j
