@@ -19,7 +19,7 @@ use Rattle.tree_order.specs.Subtrees.{Tree, Layer, layer_of, Encloses, directly,
 use Rattle.tree_order.specs.Subtrees.{IsPartOf}
 use Rattle.tree_order.specs.Subtrees as t
 use Rattle.tree_order.proofs.Lists.{Among, among_contained, contained_among, among_either}
-use Rattle.tree_order.proofs.Lists.{among_left, among_right}
+use Rattle.tree_order.proofs.Lists.{among_left, among_right, among_one, among_map}
 use Rattle.tree_order.proofs.ExpressionLists.{list_if}
 use Rattle.tree_order.proofs.Merging.{Shuffled, neither, left, right, CountFrom}
 use Rattle.tree_order.proofs.InOrder.{numbered_nodes, unit_fits, types_fit, globals_fit}
@@ -28,7 +28,7 @@ use Rattle.tree_order.proofs.NodesOfWords.{node_gathering}
 use Rattle.tree_order.proofs.NodeInstances.{stmt_nodes}
 use Rattle.tree_order.proofs.FileInstances.{decl_nodes, same_unit, same_types, same_globals}
 use Rattle.tree_order.proofs.FileInstances.{same_config}
-use Rattle.tree_order.proofs.LayerLists.{of_any, of_text, layer_is}
+use Rattle.tree_order.proofs.LayerLists.{of_any, of_text, layer_is, enclosed_among}
 
 -- the nodes of a tree of any kind
 abbrev nodes_of : Tree → List Node
@@ -103,14 +103,6 @@ turn_one nodes x (y ∷ ys) (inl is) h =
 turn_one nodes x (y ∷ ys) (inr there) h =
     turn_one nodes x ys there (turn_back (nodes y) (flat_map nodes ys) h)
 
-among_one : {A : Type 0} (nodes : A → List Node) (a : Node) (x : A) (xs : List A) → Among x xs →
-    Among a (nodes x) → Among a (flat_map nodes xs)
-among_one nodes a x [] there h = absurd there
-among_one nodes a x (y ∷ ys) (inl is) h =
-    among_left a (nodes y) (flat_map nodes ys) (subst (λ z. Among a (nodes z)) is h)
-among_one nodes a x (y ∷ ys) (inr there) h =
-    among_right a (nodes y) (flat_map nodes ys) (among_one nodes a x ys there h)
-
 -- ---- a tree and those within it
 
 abbrev inner_nodes : Tree → List Node
@@ -142,13 +134,6 @@ own_before x a is h =
     before_back a (of_text stmt_nodes decl_nodes (layer_of x).text) (inner_nodes x)
     (subst InTurn (with_node x a is) h).0
 
-among_layer : (a : Node) (x : Tree) → Among a (inner_nodes x) → Among a (nodes_of x)
-among_layer a x h =
-    subst (λ ns. Among a ns) (sym (layer_is stmt_nodes decl_nodes x))
-    (among_right a (list_if node_gathering.own (layer_of x).node)
-    (of_text stmt_nodes decl_nodes (layer_of x).text ++ inner_nodes x)
-    (among_right a (of_text stmt_nodes decl_nodes (layer_of x).text) (inner_nodes x) h))
-
 held_turn : {outer inner : Tree} → Encloses outer inner → InTurn (nodes_of outer) →
     InTurn (nodes_of inner)
 held_turn {outer} {inner} (directly there) h =
@@ -168,22 +153,7 @@ held_before a {outer} {inner} (further {middle} there more) h =
     held_before a more (within_before a middle (before_one nodes_of a middle (layer_of outer).parts
     (among_contained (layer_of outer).parts middle there) h))
 
-held_among : (a : Node) {outer inner : Tree} → Encloses outer inner → Among a (nodes_of inner) →
-    Among a (nodes_of outer)
-held_among a {outer} {inner} (directly there) h =
-    among_layer a outer (among_one nodes_of a inner (layer_of outer).parts
-    (among_contained (layer_of outer).parts inner there) h)
-held_among a {outer} {inner} (further {middle} there more) h =
-    among_layer a outer (among_one nodes_of a middle (layer_of outer).parts
-    (among_contained (layer_of outer).parts middle there) (held_among a more h))
-
 -- ---- the trees that stand within no other
-
-among_map : {A B : Type 0} (make : A → B) (y : B) (xs : List A) → Among y (map make xs) →
-    (x : A) × Among x xs × (y ≡ make x)
-among_map make y [] h = absurd h
-among_map make y (x ∷ xs) (inl is) = (x, inl refl, is)
-among_map make y (x ∷ xs) (inr h) = let r = among_map make y xs h in (r.0, inr r.1, r.2)
 
 -- what is said of each of the four kinds is said of each top
 module _ (Q : Tree → Type 0) (tree : SourceTree)
@@ -191,7 +161,7 @@ module _ (Q : Tree → Type 0) (tree : SourceTree)
     Q (t.types x))
     (globals : (x : _) → Among x tree.globals → Q (t.globals x)) (config : (x : _) →
     Among x tree.config → Q (t.config x)) where
-  each_top : (top : Tree) → Contains (tops_of tree) top → Q top
+  pub each_top : (top : Tree) → Contains (tops_of tree) top → Q top
   each_top top there =
       elim (among_either top (map t.unit tree.units) (map t.types tree.types
       ++ (map t.globals tree.globals ++ map t.config tree.config))
@@ -266,7 +236,7 @@ nodes_of_all_parts tree x a (top, there, inl same) is =
     (tops_among tree a top there (subst (λ y. Among a (nodes_of y)) same (own_among x a is)))
 nodes_of_all_parts tree x a (top, there, inr held) is =
     contained_among (nodes_of_tree tree) a
-    (tops_among tree a top there (held_among a held (own_among x a is)))
+    (tops_among tree a top there (enclosed_among stmt_nodes decl_nodes a held (own_among x a is)))
 
 -- ---- their order
 

@@ -68,9 +68,8 @@ NodesOfParts =
     (tree : SourceTree) (part : Tree) (node : Node) → IsPartOf tree part →
     (layer_of part).node ≡ Some node → Contains (nodes_of_tree tree) node
 
--- and comes before those of the parts within, also where they have the same bytes: a path before
--- its
--- only name.
+-- and comes before those of the parts within, also where they have the same bytes: a path comes
+-- before its only name.
 abbrev pub PartsInOrder : Type 0
 PartsInOrder =
     (text : List ℕ) (tree : SourceTree) → IsTreeOf text tree →
