@@ -278,7 +278,8 @@ argument_is x =
       text = refl;
       parts = two (t.if_there t.identifier x.name) (t.expr x.value ∷ [])
           (t.if_there t.identifier (option_map bare_identifier x.name))
-          (t.expr (bare_expr x.value) ∷ []) (bare_if t.identifier bare_identifier (λ y. refl) x.name)
+          (t.expr (bare_expr x.value) ∷ []) (bare_if t.identifier bare_identifier (λ y. refl)
+          x.name)
           refl;
     })
 
@@ -362,7 +363,8 @@ stmt_layers (Stmt-F.If node branches (Some found)) =
       text = refl;
       parts = two (map t.branch branches) (map t.stmt found)
           (map t.branch (map bare_branch branches)) (map t.stmt (map bare_stmt found))
-          (bare_list t.branch bare_branch (λ y. refl) branches) (bare_list t.stmt bare_stmt (λ y. refl)
+          (bare_list t.branch bare_branch (λ y. refl) branches)
+          (bare_list t.stmt bare_stmt (λ y. refl)
           found);
     }
 stmt_layers (Stmt-F.Case node selector cases None) =
@@ -442,7 +444,8 @@ case_is x =
       text = refl;
       parts = two (map t.label x.labels) (map t.stmt x.body)
           (map t.label (map bare_label x.labels)) (map t.stmt (map bare_stmt x.body))
-          (bare_list t.label bare_label (λ y. refl) x.labels) (bare_list t.stmt bare_stmt (λ y. refl)
+          (bare_list t.label bare_label (λ y. refl) x.labels)
+          (bare_list t.stmt bare_stmt (λ y. refl)
           x.body);
     })
 
@@ -687,7 +690,8 @@ bare_layer (t.counter x) =
     record {
       text = refl;
       parts = ap (λ xs. t.identifier (bare_identifier x.variable) ∷ t.expr
-          (bare_expr x.first) ∷ t.expr (bare_expr x.last) ∷ xs) (bare_if t.expr bare_expr (λ y. refl)
+          (bare_expr x.first) ∷ t.expr (bare_expr x.last) ∷ xs)
+          (bare_if t.expr bare_expr (λ y. refl)
           x.step);
     }
 bare_layer (t.stmt x) = stmt_is x
@@ -757,7 +761,8 @@ bare_layer (t.tasks x) =
       text = refl;
       parts = two (map t.task x.tasks) (map t.program_line x.lines)
           (map t.task (map bare_task x.tasks)) (map t.program_line (map bare_program_line x.lines))
-          (bare_list t.task bare_task (λ y. refl) x.tasks) (bare_list t.program_line bare_program_line
+          (bare_list t.task bare_task (λ y. refl) x.tasks)
+          (bare_list t.program_line bare_program_line
           (λ y. refl) x.lines);
     }
 bare_layer (t.resource x) = record { text = refl; parts = resource_parts x }

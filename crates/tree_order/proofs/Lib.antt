@@ -16,3 +16,4 @@ mod PartsInOrder
 mod TextLists
 mod BareLayers
 mod TextsOfTokens
+mod TreeInduction

@@ -46,6 +46,14 @@ among_one list x y (z ∷ zs) (inl is) h =
 among_one list x y (z ∷ zs) (inr there) h =
     among_right x (list z) (flat_map list zs) (among_one list x y zs there h)
 
+pub among_flat : {A X : Type 0} (list : A → List X) (x : X) (ys : List A) →
+    Among x (flat_map list ys) → (y : A) × Among y ys × Among x (list y)
+among_flat list x [] h = absurd h
+among_flat list x (y ∷ ys) h = elim (among_either x (list y) (flat_map list ys) h) [
+  | inl here ↦ (y, inl refl, here)
+  | inr later ↦ let r = among_flat list x ys later in (r.0, inr r.1, r.2)
+]
+
 pub among_map : {A B : Type 0} (make : A → B) (y : B) (xs : List A) → Among y (map make xs) →
     (x : A) × Among x xs × (y ≡ make x)
 among_map make y [] h = absurd h

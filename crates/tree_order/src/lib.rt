@@ -1,4 +1,4 @@
-//! The order of the nodes of a tree, and the tokens that its texts come from: laws of the trees of texts.
+//! The order of the nodes of a tree, and the tokens that its texts come from.
 #![tactic(auto)]
 
 mod law;
