@@ -2,6 +2,7 @@
 -- trees directly within it.
 use Rattle.std.proofs.Common.{◌≡◌, ℕ, List, [], ◌∷◌, ◌++◌, map, Option, Some, None}
 use Rattle.std.proofs.Common.{refl, sym, ap, ◌∙◌}
+use Rattle.std.proofs.Common.{subst}
 use Rattle.std.specs.Prelude.{flat_map}
 use Rattle.std.proofs.lemmas.List.{append-nil}
 use Rattle.std.proofs.lemmas.List.Folds.{flat_map-map}
@@ -54,8 +55,10 @@ use Rattle.st_tree.specs.declared.expression.Expr.TheOpen.{Expr-F, Part-F}
 use Rattle.st_tree.specs.declared.expression.Part.{Part, out-Part, roll-Part, roll-out-Part}
 use Rattle.st_tree.specs.declared.expression.Argument.{Argument, is-Argument'}
 use Rattle.st_tree.specs.declared.expression.Path.{Path, is-Path'}
+use Rattle.tree_order.specs.Subtrees.{Encloses, directly, further}
 use Rattle.tree_order.specs.Subtrees.{Tree, Layer, layer_of, expr_layer, part_layer}
 use Rattle.tree_order.specs.Subtrees as t
+use Rattle.tree_order.proofs.Lists.{Among, among_contained, among_right, among_one}
 use Rattle.tree_order.proofs.Gathering.{Gathering}
 use Rattle.tree_order.proofs.ExpressionLists.{ExprLists, of_identifier, of_address, of_root}
 use Rattle.tree_order.proofs.ExpressionLists.{list_if}
@@ -433,3 +436,22 @@ module _ {M : Type 0} {P : Word → List M → Type 0} {G : Gathering P} {E : Ex
   layer_is (t.resource x) = resource_is x
   layer_is (t.config x) = config_is x
   layer_is (t.file_part x) = file_part_is x
+
+  -- ---- what is gathered of a tree within another
+
+  pub among_layer : (m : M) (x : Tree) → Among m (flat_map of_any (layer_of x).parts) →
+      Among m (of_any x)
+  among_layer m x h =
+      subst (λ ms. Among m ms) (sym (layer_is x))
+      (among_right m (list_if G.own (layer_of x).node) (of_text (layer_of x).text
+      ++ flat_map of_any (layer_of x).parts)
+      (among_right m (of_text (layer_of x).text) (flat_map of_any (layer_of x).parts) h))
+
+  pub enclosed_among : (m : M) {outer inner : Tree} → Encloses outer inner →
+      Among m (of_any inner) → Among m (of_any outer)
+  enclosed_among m {outer} {inner} (directly there) h =
+      among_layer m outer (among_one of_any m inner (layer_of outer).parts
+      (among_contained (layer_of outer).parts inner there) h)
+  enclosed_among m {outer} {inner} (further {middle} there more) h =
+      among_layer m outer (among_one of_any m middle (layer_of outer).parts
+      (among_contained (layer_of outer).parts middle there) (enclosed_among m more h))

@@ -13,3 +13,7 @@ mod Merging
 mod InOrder
 mod LayerLists
 mod PartsInOrder
+mod TextLists
+mod BareLayers
+mod TextsOfTokens
+mod TreeInduction

@@ -1,9 +1,12 @@
--- The node of a tree comes before those of the trees within it.
-use Rattle.std.proofs.Common.{◌≡◌, ℕ, suc, ◌<◌, List, [], ◌∷◌, ◌++◌, map, Option}
+-- The nodes of a file are those of the trees that stand in it and of its comments; that of a tree
+-- comes
+-- before those of the trees within it.
+use Rattle.std.proofs.Common.{◌⊎◌, ◌≡◌, ℕ, suc, ◌<◌, List, [], ◌∷◌, ◌++◌, map, Option}
 use Rattle.std.proofs.Common.{Some, None, refl, sym, ap, subst, ◌∙◌, arith, inl, inr}
 use Rattle.std.specs.Prelude.{Contains, flat_map, filter_map}
 use Rattle.std.specs.List.{cons_option}
 use Rattle.st_lexer.specs.Laws.{TokensIn}
+use Rattle.token_grammar.specs.declared.token.TokenKind.{TokenKind}
 use Rattle.st_tree.specs.declared.node.Node.{Node}
 use Rattle.st_tree.specs.declared.file.Comment.{Comment}
 use Rattle.st_tree.specs.declared.file.FilePart.{FilePart}
@@ -14,12 +17,15 @@ use Rattle.tree_numbers.specs.Numbers.{numbered_parts}
 use Rattle.tree_numbers.specs.Laws.{RightNumbers}
 use Rattle.tree_numbers.specs.Parts.{unit_of, types_of, globals_of, config_of, file_of}
 use Rattle.st_units.specs.SourceTrees.{comments_among, starts_of, tree_of}
-use Rattle.tree_order.specs.Order.{nodes_of_tree, number_of, NodesOfParts, PartsInOrder}
+use Rattle.tree_order.specs.Order.{nodes_of_tree, number_of, NodesOfParts, PartsOfNodes}
+use Rattle.tree_order.specs.Order.{PartsInOrder}
 use Rattle.tree_order.specs.Subtrees.{Tree, Layer, layer_of, Encloses, directly, further, tops_of}
 use Rattle.tree_order.specs.Subtrees.{IsPartOf}
 use Rattle.tree_order.specs.Subtrees as t
 use Rattle.tree_order.proofs.Lists.{Among, among_contained, contained_among, among_either}
-use Rattle.tree_order.proofs.Lists.{among_left, among_right}
+use Rattle.tree_order.proofs.Lists.{among_left, among_right, among_one, among_map, map_among}
+use Rattle.tree_order.proofs.Lists.{among_flat}
+use Rattle.tree_order.proofs.TreeInduction.{each_tree}
 use Rattle.tree_order.proofs.ExpressionLists.{list_if}
 use Rattle.tree_order.proofs.Merging.{Shuffled, neither, left, right, CountFrom}
 use Rattle.tree_order.proofs.InOrder.{numbered_nodes, unit_fits, types_fit, globals_fit}
@@ -28,7 +34,7 @@ use Rattle.tree_order.proofs.NodesOfWords.{node_gathering}
 use Rattle.tree_order.proofs.NodeInstances.{stmt_nodes}
 use Rattle.tree_order.proofs.FileInstances.{decl_nodes, same_unit, same_types, same_globals}
 use Rattle.tree_order.proofs.FileInstances.{same_config}
-use Rattle.tree_order.proofs.LayerLists.{of_any, of_text, layer_is}
+use Rattle.tree_order.proofs.LayerLists.{of_any, of_text, layer_is, enclosed_among}
 
 -- the nodes of a tree of any kind
 abbrev nodes_of : Tree → List Node
@@ -103,14 +109,6 @@ turn_one nodes x (y ∷ ys) (inl is) h =
 turn_one nodes x (y ∷ ys) (inr there) h =
     turn_one nodes x ys there (turn_back (nodes y) (flat_map nodes ys) h)
 
-among_one : {A : Type 0} (nodes : A → List Node) (a : Node) (x : A) (xs : List A) → Among x xs →
-    Among a (nodes x) → Among a (flat_map nodes xs)
-among_one nodes a x [] there h = absurd there
-among_one nodes a x (y ∷ ys) (inl is) h =
-    among_left a (nodes y) (flat_map nodes ys) (subst (λ z. Among a (nodes z)) is h)
-among_one nodes a x (y ∷ ys) (inr there) h =
-    among_right a (nodes y) (flat_map nodes ys) (among_one nodes a x ys there h)
-
 -- ---- a tree and those within it
 
 abbrev inner_nodes : Tree → List Node
@@ -142,13 +140,6 @@ own_before x a is h =
     before_back a (of_text stmt_nodes decl_nodes (layer_of x).text) (inner_nodes x)
     (subst InTurn (with_node x a is) h).0
 
-among_layer : (a : Node) (x : Tree) → Among a (inner_nodes x) → Among a (nodes_of x)
-among_layer a x h =
-    subst (λ ns. Among a ns) (sym (layer_is stmt_nodes decl_nodes x))
-    (among_right a (list_if node_gathering.own (layer_of x).node)
-    (of_text stmt_nodes decl_nodes (layer_of x).text ++ inner_nodes x)
-    (among_right a (of_text stmt_nodes decl_nodes (layer_of x).text) (inner_nodes x) h))
-
 held_turn : {outer inner : Tree} → Encloses outer inner → InTurn (nodes_of outer) →
     InTurn (nodes_of inner)
 held_turn {outer} {inner} (directly there) h =
@@ -168,22 +159,7 @@ held_before a {outer} {inner} (further {middle} there more) h =
     held_before a more (within_before a middle (before_one nodes_of a middle (layer_of outer).parts
     (among_contained (layer_of outer).parts middle there) h))
 
-held_among : (a : Node) {outer inner : Tree} → Encloses outer inner → Among a (nodes_of inner) →
-    Among a (nodes_of outer)
-held_among a {outer} {inner} (directly there) h =
-    among_layer a outer (among_one nodes_of a inner (layer_of outer).parts
-    (among_contained (layer_of outer).parts inner there) h)
-held_among a {outer} {inner} (further {middle} there more) h =
-    among_layer a outer (among_one nodes_of a middle (layer_of outer).parts
-    (among_contained (layer_of outer).parts middle there) (held_among a more h))
-
 -- ---- the trees that stand within no other
-
-among_map : {A B : Type 0} (make : A → B) (y : B) (xs : List A) → Among y (map make xs) →
-    (x : A) × Among x xs × (y ≡ make x)
-among_map make y [] h = absurd h
-among_map make y (x ∷ xs) (inl is) = (x, inl refl, is)
-among_map make y (x ∷ xs) (inr h) = let r = among_map make y xs h in (r.0, inr r.1, r.2)
 
 -- what is said of each of the four kinds is said of each top
 module _ (Q : Tree → Type 0) (tree : SourceTree)
@@ -191,7 +167,7 @@ module _ (Q : Tree → Type 0) (tree : SourceTree)
     Q (t.types x))
     (globals : (x : _) → Among x tree.globals → Q (t.globals x)) (config : (x : _) →
     Among x tree.config → Q (t.config x)) where
-  each_top : (top : Tree) → Contains (tops_of tree) top → Q top
+  pub each_top : (top : Tree) → Contains (tops_of tree) top → Q top
   each_top top there =
       elim (among_either top (map t.unit tree.units) (map t.types tree.types
       ++ (map t.globals tree.globals ++ map t.config tree.config))
@@ -203,7 +179,8 @@ module _ (Q : Tree → Type 0) (tree : SourceTree)
               | inl h ↦
                   let r = among_map t.types top tree.types h in subst Q (sym r.2) (types r.0 r.1)
               | inr h ↦
-                  elim (among_either top (map t.globals tree.globals) (map t.config tree.config) h) [
+                  elim (among_either top (map t.globals tree.globals)
+                  (map t.config tree.config) h) [
                     | inl h ↦
                         let r = among_map t.globals top tree.globals h in subst Q (sym r.2)
                         (globals r.0 r.1)
@@ -266,7 +243,120 @@ nodes_of_all_parts tree x a (top, there, inl same) is =
     (tops_among tree a top there (subst (λ y. Among a (nodes_of y)) same (own_among x a is)))
 nodes_of_all_parts tree x a (top, there, inr held) is =
     contained_among (nodes_of_tree tree) a
-    (tops_among tree a top there (held_among a held (own_among x a is)))
+    (tops_among tree a top there (enclosed_among stmt_nodes decl_nodes a held (own_among x a is)))
+
+-- ---- the trees of nodes
+
+-- Each node of the tree is its own, or that of a tree within it.
+abbrev IsReached : Tree → Type 0
+IsReached x =
+    (a : Node) → Among a (nodes_of x) → (y : Tree) × ((y ≡ x) ⊎ Encloses x y)
+    × ((layer_of y).node ≡ Some a)
+
+own_node : (a : Node) (o : Option Node) → Among a (list_if node_gathering.own o) → o ≡ Some a
+own_node a None h = absurd h
+own_node a (Some n) (inl is) = ap Some (sym is)
+own_node a (Some n) (inr h) = absurd h
+
+no_node : (a : Node) (o : Option (TokenKind × List ℕ)) → Among a (of_text stmt_nodes decl_nodes o) →
+    ⊥
+no_node a None h = h
+no_node a (Some p) h = h
+
+inner_reached : (x : Tree) → ((u : Tree) → Among u (layer_of x).parts → IsReached u) → (a : Node) →
+    Among a (inner_nodes x) → (y : Tree) × ((y ≡ x) ⊎ Encloses x y) × ((layer_of y).node ≡ Some a)
+inner_reached x each a h =
+    let r = among_flat nodes_of a (layer_of x).parts h in
+    let there : Contains (layer_of x).parts r.0 = contained_among (layer_of x).parts r.0 r.1 in
+    let s = each r.0 r.1 a r.2 in
+    elim s.1 [
+      | inl same ↦
+          (s.0, inr (directly (subst (λ z. Contains (layer_of x).parts z) (sym same) there)), s.2)
+      | inr held ↦ (s.0, inr (further there held), s.2)
+    ]
+
+reached_from : (x : Tree) → ((u : Tree) → Among u (layer_of x).parts → IsReached u) → IsReached x
+reached_from x each a h =
+    elim (among_either a (list_if node_gathering.own (layer_of x).node)
+    (of_text stmt_nodes decl_nodes (layer_of x).text ++ inner_nodes x)
+    (subst (λ ns. Among a ns) (layer_is stmt_nodes decl_nodes x) h)) [
+      | inl own ↦ (x, inl refl, own_node a (layer_of x).node own)
+      | inr rest ↦
+          elim (among_either a (of_text stmt_nodes decl_nodes (layer_of x).text)
+          (inner_nodes x) rest) [
+            | inl none ↦ absurd (no_node a (layer_of x).text none)
+            | inr inner ↦ inner_reached x each a inner
+          ]
+    ]
+
+reached : (x : Tree) → IsReached x
+reached = each_tree IsReached reached_from
+
+-- a top of the file with this node
+of_top : (tree : SourceTree) (top : Tree) (a : Node) → Among top (tops_of tree) →
+    Among a (nodes_of top) → (y : Tree) × IsPartOf tree y × ((layer_of y).node ≡ Some a)
+of_top tree top a there h =
+    let r = reached top a h in (r.0, (top, contained_among (tops_of tree) top there, r.1), r.2)
+
+pub parts_of_nodes : PartsOfNodes
+parts_of_nodes tree a there =
+    elim (among_either a (flat_map nodes_of_unit tree.units) behind_units
+    (among_contained (nodes_of_tree tree) a there)) [
+      | inl h ↦ let r = among_flat nodes_of_unit a tree.units h in
+          inl (of_top tree (t.unit r.0) a (among_left (t.unit r.0) units other_tops
+          (map_among t.unit r.0 tree.units r.1)) (subst (λ ns. Among a ns) (same_unit r.0) r.2))
+      | inr h ↦ elim (among_either a (flat_map nodes_of_types tree.types) behind_types h) [
+        | inl h ↦ let r = among_flat nodes_of_types a tree.types h in
+            inl (of_top tree (t.types r.0) a (among_right (t.types r.0) units other_tops
+            (among_left (t.types r.0) types last_tops (map_among t.types r.0 tree.types r.1)))
+            (subst (λ ns. Among a ns) (same_types r.0) r.2))
+        | inr h ↦ elim (among_either a (flat_map nodes_of_globals tree.globals) behind_globals h) [
+          | inl h ↦ let r = among_flat nodes_of_globals a tree.globals h in
+              inl (of_top tree (t.globals r.0) a (among_right (t.globals r.0) units other_tops
+              (among_right (t.globals r.0) types last_tops (among_left (t.globals r.0) shared
+              configs (map_among t.globals r.0 tree.globals r.1))))
+              (subst (λ ns. Among a ns) (same_globals r.0) r.2))
+          | inr h ↦ elim (among_either a (flat_map nodes_of_config tree.config) comments h) [
+            | inl h ↦ let r = among_flat nodes_of_config a tree.config h in
+                inl (of_top tree (t.config r.0) a (among_right (t.config r.0) units other_tops
+                (among_right (t.config r.0) types last_tops (among_right (t.config r.0) shared
+                configs (map_among t.config r.0 tree.config r.1))))
+                (subst (λ ns. Among a ns) (same_config r.0) r.2))
+            | inr h ↦ inr (contained_among comments a h)
+          ]
+        ]
+      ]
+    ]
+  where
+    comments : List Node
+    comments = map (λ (c : Comment). c.node) tree.comments
+
+    behind_globals : List Node
+    behind_globals = flat_map nodes_of_config tree.config ++ comments
+
+    behind_types : List Node
+    behind_types = flat_map nodes_of_globals tree.globals ++ behind_globals
+
+    behind_units : List Node
+    behind_units = flat_map nodes_of_types tree.types ++ behind_types
+
+    units : List Tree
+    units = map t.unit tree.units
+
+    types : List Tree
+    types = map t.types tree.types
+
+    shared : List Tree
+    shared = map t.globals tree.globals
+
+    configs : List Tree
+    configs = map t.config tree.config
+
+    last_tops : List Tree
+    last_tops = shared ++ configs
+
+    other_tops : List Tree
+    other_tops = types ++ last_tops
 
 -- ---- their order
 

@@ -116,14 +116,14 @@ kept_apart lo ts hi a b s h k =
 
 -- ---- the lexemes of a word
 
-same_first : (x y : Lexeme) (xs ys : List Lexeme) → x ∷ xs ≡ y ∷ ys → x ≡ y
+pub same_first : (x y : Lexeme) (xs ys : List Lexeme) → x ∷ xs ≡ y ∷ ys → x ≡ y
 same_first x y xs ys e = ap first e
   where
     first : List Lexeme → Lexeme
     first [] = x
     first (z ∷ zs) = z
 
-same_rest : (x y : Lexeme) (xs ys : List Lexeme) → x ∷ xs ≡ y ∷ ys → xs ≡ ys
+pub same_rest : (x y : Lexeme) (xs ys : List Lexeme) → x ∷ xs ≡ y ∷ ys → xs ≡ ys
 same_rest x y xs ys e = ap rest e
   where
     rest : List Lexeme → List Lexeme

@@ -62,15 +62,21 @@ NodesInOrder =
     (text : List ℕ) (tree : SourceTree) → IsTreeOf text tree →
     AreNumberedInOrder (length text) (nodes_of_tree tree)
 
+-- They are the nodes of the parts of the tree and of its comments, and no others.
+abbrev pub PartsOfNodes : Type 0
+PartsOfNodes =
+    (tree : SourceTree) (node : Node) → Contains (nodes_of_tree tree) node →
+    ((part : Tree) × IsPartOf tree part × ((layer_of part).node ≡ Some node))
+    ⊎ Contains (map (λ comment. comment.node) tree.comments) node
+
 -- The node of each part of a tree is one of them,
 abbrev pub NodesOfParts : Type 0
 NodesOfParts =
     (tree : SourceTree) (part : Tree) (node : Node) → IsPartOf tree part →
     (layer_of part).node ≡ Some node → Contains (nodes_of_tree tree) node
 
--- and comes before those of the parts within, also where they have the same bytes: a path before
--- its
--- only name.
+-- and comes before those of the parts within, also where they have the same bytes: a path comes
+-- before its only name.
 abbrev pub PartsInOrder : Type 0
 PartsInOrder =
     (text : List ℕ) (tree : SourceTree) → IsTreeOf text tree →

@@ -1,6 +1,6 @@
-//! The order of the nodes of a tree: laws of the trees of texts.
+//! The order of the nodes of a tree, and the tokens that its texts come from.
 #![tactic(auto)]
 
 mod law;
 
-pub use law::order_laws;
+pub use law::{literal_laws, order_laws};

@@ -1,5 +1,5 @@
 use Rattle.tree_order.proofs.InOrder.{nodes_in_order}
-use Rattle.tree_order.proofs.PartsInOrder.{nodes_of_all_parts, parts_in_order}
+use Rattle.tree_order.proofs.PartsInOrder.{nodes_of_all_parts, parts_of_nodes, parts_in_order}
 use Rattle.tree_order.proofs.law.order_laws.Goals as goal
 
 pub returns-clause-nodes : goal.returns-clause-nodes
@@ -8,6 +8,9 @@ returns-clause-nodes c =
 
 pub returns-clause-all_parts : goal.returns-clause-all_parts
 returns-clause-all_parts c = nodes_of_all_parts
+
+pub returns-clause-no_others : goal.returns-clause-no_others
+returns-clause-no_others c = parts_of_nodes
 
 pub returns-clause-parts : goal.returns-clause-parts
 returns-clause-parts c =
