@@ -1,12 +1,13 @@
-// Copies of trees and of the code of tasks: that each is made where there is memory. That a copy equals its source is proved.
+// Copies of trees and of the code of tasks: that each is made where there is memory. That a copy
+// equals its source is proved.
 ghost use Rattle.std.specs.Prelude.{◌≡◌};
 
 use iec_tables::elem::Elem;
 use st_tree::{
-    Argument, Branch, Case, Cell, CellInfo, Code, Component, Expr, FieldInit, Identifier, Init, Item,
-    Node, NodeNo, Number, Operation, Operator, Part, Site, TaskCode,
+    Argument, Branch, Case, Cell, CellInfo, Code, Component, Expr, FieldInit, FilePart, Identifier,
+    Init, Item, Node, NodeNo, Number, Operation, Operator, Part, Site, TaskCode, Types,
 };
-use st_units::{parse_file, parse_parts};
+use st_units::parse_file;
 use station_ports::outside::NoMemory;
 use station_ports::steps::Steps;
 use station_ports::texts::Name;
@@ -36,25 +37,22 @@ const TEXT: &str = "TYPE T : INT (0 .. 9) := 1; E : (A, B); \
     RESOURCE r ON cpu TASK k (INTERVAL := T#1s, PRIORITY := 1); PROGRAM p WITH k : P; END_RESOURCE \
     PROGRAM q : P; END_CONFIGURATION (* end *)\n";
 
-/// Whether the text has a tree, and its parts and its tree are copied.
-fn are_copied<L: Ledger>(rt: &HostRuntime, blank: Blank, text: &[u8]) -> bool
+/// Whether the text has a tree that is copied.
+fn is_read_and_copied<L: Ledger>(rt: &HostRuntime, blank: Blank, text: &[u8]) -> bool
     requires name { blank.name ≡ L.name }
     requires parts { blank.parts ≡ L.parts }
     requires two { blank.parts ≡ 2 }
 {
     let mut steps = Steps::<L>::new(rt, blank);
-    let parts = parse_parts(rt.alloc(), text, &mut steps).is_ok_and(|parts| {
-        parts.copy(rt.alloc()).is_ok()
-    });
-    let tree = parse_file(rt.alloc(), text, &mut steps).is_ok_and(|tree| {
-        tree.copy(rt.alloc()).is_ok()
-    });
-    parts && tree
+    match parse_file(rt.alloc(), text, &mut steps) {
+        Ok(tree) => tree.copy(rt.alloc()).is_ok(),
+        Err(_) => false,
+    }
 }
 
 #[test]
 fn files_are_copied(rt: HostRuntime) {
-    assert!(rt; are_copied::<Brand>(&rt, Blank::new(2), TEXT.as_bytes()));
+    assert!(rt; is_read_and_copied::<Brand>(&rt, Blank::new(2), TEXT.as_bytes()));
 }
 
 /// Whether the tree is made and copied.
@@ -121,6 +119,13 @@ fn field(alloc: Global) -> Result<FieldInit, NoMemory> {
     })
 }
 
+fn file_part(alloc: Global) -> FilePart {
+    FilePart::Types(Types {
+        node: NODE,
+        decls: Items::new(alloc),
+    })
+}
+
 #[test]
 fn parts_of_trees_are_copied(rt: HostRuntime) {
     let alloc = rt.alloc();
@@ -130,6 +135,7 @@ fn parts_of_trees_are_copied(rt: HostRuntime) {
     assert!(rt; is_copied(alloc, Ok(case(alloc))));
     assert!(rt; is_copied(alloc, item(alloc)));
     assert!(rt; is_copied(alloc, field(alloc)));
+    assert!(rt; is_copied(alloc, Ok(file_part(alloc))));
 }
 
 /// `own := shared + 1`
