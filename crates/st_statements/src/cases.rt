@@ -1,9 +1,9 @@
 // CASE. Labels and statements that begin with a name are told apart behind the name, so the branches are read as one list.
 
 ghost use Rattle.std.specs.Prelude.{◌≡◌, IfOk};
-ghost use Rattle.token_grammar.specs.Input.{Reads, ReadsAs, view};
+ghost use Rattle.token_grammar.specs.steps.Parsers.{Reads, ReadsAs, view};
 ghost use Rattle.st_statements.specs.steps.Parse as spec;
-ghost use Rattle.st_statements.specs.Trees as trees;
+ghost use Rattle.st_statements.specs.steps.ReadTrees as trees;
 ghost use Rattle.st_statements.specs.steps.Held.{branches_of};
 ghost use Rattle.st_statements.specs.steps.Nests.{NestsStatements};
 

@@ -11,7 +11,7 @@ use Rattle.token_grammar.specs.declared.fault.ParseError.TheVariants as error
 use Rattle.token_grammar.specs.Texts.{Lexeme, lexeme, lexemes}
 use Rattle.token_grammar.specs.Kept.{is_kept, words_of, place_at}
 use Rattle.token_grammar.specs.Grammar.{Rule, lexemes_of, SpellsFront, IsGrammarFault, IsTooDeep, max_depth}
-use Rattle.token_grammar.specs.Input.{Input, Stop, Outcome, Parser}
+use Rattle.token_grammar.specs.steps.Parsers.{Input, Stop, Outcome, Parser}
 use Rattle.token_grammar.proofs.Laws.{Told, Reason, input, Exact}
 use Rattle.token_grammar.proofs.Front.{spells, is_fault, is_too_deep}
 use Rattle.token_grammar.proofs.Forms.{Inner}

@@ -2,7 +2,7 @@
 use Rattle.std.proofs.Common.{◌≡◌, ℕ, zero, suc, ◌≤◌, Bool, false, List, [], ◌∷◌, ◌++◌, Ok, Err, refl, sym, ap, subst, ◌∙◌, append_assoc, arith}
 use Rattle.std.proofs.lemmas.List.{append-nil, append_cancel_right}
 use Rattle.token_grammar.specs.Texts.{Lexeme}
-use Rattle.token_grammar.specs.Input.{Input, Outcome, Parser}
+use Rattle.token_grammar.specs.steps.Parsers.{Input, Outcome, Parser}
 use Rattle.token_grammar.specs.Grammar.{Word, Rule, lexemes_of, Begins, Stops, Spells, IsLongestFront, SpellsFront, IsGrammarFault, IsTooDeep, IsWrong}
 use Rattle.token_grammar.proofs.Laws.{input, Told, Exact, Some_}
 use Rattle.token_grammar.proofs.Front.{one_value}

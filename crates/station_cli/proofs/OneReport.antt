@@ -61,30 +61,30 @@ one_report_of : (name text : List ℕ) (tree : SourceTree) (made other : Report)
 one_report_of name text tree made other numbered a b =
     let unit : b.unit ≡ a.unit = first_same b.unit a.unit tree.units b.units a.units in
     let planned : IsComponent a.unit b.component =
-        subst (λ (u : SourceUnit). IsComponent u b.component) unit b.planned in
+    subst (λ (u : SourceUnit). IsComponent u b.component) unit b.planned in
     let same = alike a.unit a.component b.component a.task b.task a.planned planned a.tasks
-        b.tasks in
+    b.tasks in
     let grid : b.grid ≡ a.grid =
-        sym (one_grid a.component.literals b.component.literals a.grid b.grid
-        (same_literals a.unit a.component b.component a.planned planned) a.grid_is b.grid_is) in
+    sym (one_grid a.component.literals b.component.literals a.grid b.grid
+    (same_literals a.unit a.component b.component a.planned planned) a.grid_is b.grid_is) in
     let solved : IsSolution a.grid b.component b.table =
-        subst (λ (g : List ℤ). IsSolution g b.component b.table) grid b.solved in
+    subst (λ (g : List ℤ). IsSolution g b.component b.table) grid b.solved in
     let table : b.table ≡ a.table =
-        sym (one_table a.grid a.component b.component a.task b.task a.table b.table same a.solved
-        solved) in
+    sym (one_table a.grid a.component b.component a.task b.task a.table b.table same a.solved
+    solved) in
     let log : (pass_of b.task b.table 0).log ≡ (pass_of a.task a.table 0).log =
     ap (λ (t : List Part). (pass_of b.task t 0).log) table ∙ ap (λ (p : Passed). p.log)
-        (sym (same_pass a.task b.task a.table 0 same.code)) in
+    (sym (same_pass a.task b.task a.table 0 same.code)) in
     let told : AreAlarms name text tree a.unit (pass_of a.task a.table 0).log other.alarms =
     subst (λ (l : List Told). AreAlarms name text tree a.unit l other.alarms) log
-        (subst (λ (u : SourceUnit). AreAlarms name text tree u (pass_of b.task b.table 0).log
-        other.alarms) unit b.alarms) in
+    (subst (λ (u : SourceUnit). AreAlarms name text tree u (pass_of b.task b.table 0).log
+    other.alarms) unit b.alarms) in
     let ranges : AreRanges b.task a.table other.ranges =
-        subst (λ (t : List Part). AreRanges b.task t other.ranges) table b.ranges in
+    subst (λ (t : List Part). AreRanges b.task t other.ranges) table b.ranges in
     one_plain made other (record { analysed = a.analysed; counted = a.counted; waived = a.waived })
-        (record { analysed = b.analysed; counted = b.counted; waived = b.waived })
+    (record { analysed = b.analysed; counted = b.counted; waived = b.waived })
     (one_alarms name text tree a.unit (pass_of a.task a.table 0).log a.units numbered made.alarms
-        other.alarms a.alarms told)
+    other.alarms a.alarms told)
     (one_ranges a.task b.task a.table made.ranges other.ranges same.cells a.ranges ranges)
 
 -- ---- a text that is refused
@@ -100,7 +100,7 @@ module _ (one_tree : OneTree) (one_fault : OneTextFault) (not_both : NoTreeAndFa
       → IsAnalysed name text other → made ≡ other
   analysed name text made other a b =
       let tree : a.tree ≡ b.tree =
-          one_form_of one_tree one_form text a.tree b.tree a.spelled b.spelled in
+      one_form_of one_tree one_form text a.tree b.tree a.spelled b.spelled in
       one_report_of name text b.tree made other b.spelled.form.numbered
       (subst (λ (t : SourceTree). IsReportOf name text t made) tree a.report) b.report
 
@@ -109,11 +109,11 @@ module _ (one_tree : OneTree) (one_fault : OneTextFault) (not_both : NoTreeAndFa
   one_refusal name text made other a b =
       let same = one_fault text a.code b.code a.at b.at a.fault b.fault in
       let position = one_position text a.at b.at a.line a.column b.line b.column same.1 a.position
-          b.position in
+      b.position in
       one_refused made other (refusal_at name a.line a.column a.code)
-          (refusal_at name b.line b.column b.code) a.verdict_is b.verdict_is
+      (refusal_at name b.line b.column b.code) a.verdict_is b.verdict_is
       (λ i. refusal_at name (position.0 i) (position.1 i) (same.0 i)) a.counted b.counted a.waived
-          b.waived
+      b.waived
 
   pub one_report : (name text : List ℕ) (made other : Report) → IsReport name text made
       → IsReport name text other → made ≡ other
@@ -133,4 +133,4 @@ module _ (one_tree : OneTree) (one_fault : OneTextFault) (not_both : NoTreeAndFa
       absurd (not_both text a.file b.code b.at a.parsed b.fault)
   one_report name text made other (inr (inr a)) (inr (inr b)) =
       one_unbuilt made other NotBuilt a.verdict_is b.verdict_is a.counted b.counted a.waived
-          b.waived
+      b.waived

@@ -39,7 +39,7 @@ starts_of_order law text file is =
     all_of (λ (node : Node). node.start ≤ length text) (flat_map nodes_of_unit file.units)
     (λ node c.
     let w = (law text file is).within node
-        (Contains-append_left (flat_map nodes_of_unit file.units) _ node c) in
+    (Contains-append_left (flat_map nodes_of_unit file.units) _ node c) in
     omega (arith, w.0, w.1))
 
 feeds_are : (text : List ℕ) (file : SourceFile) → IsTreeOf text file → file.feeds ≡ feeds_from 0 text

@@ -64,10 +64,10 @@ ninth : (text bytes words : List ℕ) (n count letter : ℕ) → bytes ≡ take 
 ninth text bytes words n count letter e h full long is =
     let f : take count (take n text) ≡ words = rw (← e) h in
     let lengths : min count (min n (length text)) ≡ length words =
-        simp length-take at (ap length f) in
+    simp length-take at (ap length f) in
     let in_n : 8 < n = omega (arith, lengths, full, long) in
     let at_eight : get_or (take count (take n text)) 8 0 ≡ letter =
-        ap (λ (l : List ℕ). get_or l 8 0) f ∙ is in
+    ap (λ (l : List ℕ). get_or l 8 0) f ∙ is in
     sym (get_or-take n text 8 0 in_n) ∙ sym (get_or-take count (take n text) 8 0 long) ∙ at_eight
 
 -- what comes before and after the letter at 8 stands in the verdict's line
@@ -99,15 +99,15 @@ report_kept made e =
 
 -- the course whose line has this letter at 8 is that of a report
 pub record IsChecked (asked : Option Command) (old : World) (letter : ℕ) (text : List ℕ) : Type 0
-    where
-  pub name : List ℕ
-  pub content : List ℕ
-  pub made : Report
-  pub asks : asked ≡ Some (check name)
-  pub read : IsContent old.files name max_file content
-  pub report : IsReport name content made
-  pub text_is : text ≡ text_of made
-  pub begins : get_or (text_of made) 8 0 ≡ letter
+  where
+    pub name : List ℕ
+    pub content : List ℕ
+    pub made : Report
+    pub asks : asked ≡ Some (check name)
+    pub read : IsContent old.files name max_file content
+    pub report : IsReport name content made
+    pub text_is : text ≡ text_of made
+    pub begins : get_or (text_of made) 8 0 ≡ letter
 
 checked_of : (asked : Option Command) (old new : World) (letter : ℕ) (course : Course)
     (text : List ℕ) → letter < 90 → Happens asked old new course → text ≡ runs.text_of course
@@ -115,8 +115,17 @@ checked_of : (asked : Option Command) (old new : World) (letter : ℕ) (course :
 checked_of asked old new letter misused text low h is e =
     absurd (omega (arith, low, e, ap (λ (l : List ℕ). get_or l 8 0) is))
 checked_of asked old new letter (checked name content made) text low h is e =
-    record { name = name; content = content; made = made; asks = h.0; read = h.1; report =
-        h.2; text_is = is; begins = sym (ap (λ (l : List ℕ). get_or l 8 0) is) ∙ e }
+    record {
+      name = name;
+      content = content;
+      made = made;
+      asks = h.0;
+      read = h.1;
+      report =
+          h.2;
+      text_is = is;
+      begins = sym (ap (λ (l : List ℕ). get_or l 8 0) is) ∙ e;
+    }
 checked_of asked old new letter (too_long name) text low h is e =
     absurd (omega (arith, low, e, ap (λ (l : List ℕ). get_or l 8 0) is))
 checked_of asked old new letter (unread name) text low h is e =
@@ -140,7 +149,7 @@ planned_of : OneTree → OneForm → (name text : List ℕ) (made : Report)
     (component : Component) → IsProgram text component → IsComponent a.report.unit component
 planned_of one_tree one_form name text made a component p =
     let tree : p.tree ≡ a.tree =
-        one_form_of one_tree one_form text p.tree a.tree p.spelled a.spelled in
+    one_form_of one_tree one_form text p.tree a.tree p.spelled a.spelled in
     let unit : p.unit ≡ a.report.unit =
     units_are p.unit a.report.unit (sym p.units ∙ ap (λ t. t.units) tree ∙ a.report.units) in
     subst (λ (u : SourceUnit). IsComponent u component) unit p.planned
@@ -201,27 +210,27 @@ of_report words old bytes text n letter e c a = record {
 
 module _ (law : Theorem) (steady : Theorem_steady) (one_tree : OneTree) (one_form : OneForm)
     (words : List (List ℕ)) (old : World) (bytes text : List ℕ) (n : ℕ) (e : bytes ≡ take n text)
-    where
-  is_safe : (c : IsChecked (command_of words) old 70 text) → c.made.verdict ≡ verdict.Free
-      → IsAnalysed c.name c.content c.made → IsSafe words old bytes
-  is_safe c free a = record {
-    of_report = of_report words old bytes text n 70 e c a;
-    free = free;
-    faultless = λ component q moves. faultless_by component c.made
-        (run component moves (start component))
-        (free_alarms c.made.verdict _ _ free a.report.counted.verdict)
-        (foretold_of law one_tree one_form c.name c.content c.made a component q moves);
-    live = live_of steady c.content;
-  }
+  where
+    is_safe : (c : IsChecked (command_of words) old 70 text) → c.made.verdict ≡ verdict.Free
+        → IsAnalysed c.name c.content c.made → IsSafe words old bytes
+    is_safe c free a = record {
+      of_report = of_report words old bytes text n 70 e c a;
+      free = free;
+      faultless = λ component q moves. faultless_by component c.made
+          (run component moves (start component))
+          (free_alarms c.made.verdict _ _ free a.report.counted.verdict)
+          (foretold_of law one_tree one_form c.name c.content c.made a component q moves);
+      live = live_of steady c.content;
+    }
 
-  is_covered : (c : IsChecked (command_of words) old 65 text) → IsAnalysed c.name c.content c.made
-      → IsCovered words old bytes
-  is_covered c a = record {
-    of_report = of_report words old bytes text n 65 e c a;
-    foretold = λ component q moves. foretold_of law one_tree one_form c.name c.content c.made a
-        component q moves;
-    live = live_of steady c.content;
-  }
+    is_covered : (c : IsChecked (command_of words) old 65 text) → IsAnalysed c.name c.content c.made
+        → IsCovered words old bytes
+    is_covered c a = record {
+      of_report = of_report words old bytes text n 65 e c a;
+      foretold = λ component q moves. foretold_of law one_tree one_form c.name c.content c.made a
+          component q moves;
+      live = live_of steady c.content;
+    }
 
 of_free : (v : Verdict) → v ≡ verdict.Free → IsOfAnalysis v
 of_free v e = subst IsOfAnalysis (sym e) tt
@@ -230,29 +239,29 @@ module _ (law : Theorem) (steady : Theorem_steady) (one_tree : OneTree) (one_for
     (words : List (List ℕ)) {old new : World} {status ended : Status} {text : List ℕ}
     {old_out new_out : PortView}
     (work : IsWork (command_of words) old new status text)
-        (put : IsWritten old_out new_out status text ended) where
+    (put : IsWritten old_out new_out status text ended) where
   pub free_says : FreeIsSafe words old old_out new_out
   free_says before bytes says =
       let p : (n : ℕ) × (bytes ≡ take n text) =
-          put_prefix old_out.sent new_out.sent before bytes text put.answer says.old_bytes
-          says.new_bytes put.written.bytes_put in
+      put_prefix old_out.sent new_out.sent before bytes text put.answer says.old_bytes
+      says.new_bytes put.written.bytes_put in
       let c = checked_of (command_of words) old new 70 work.course text (omega arith) work.cause
-          work.text_is (ninth text bytes (codes "VERDICT FREE") p.0 12 70 p.1 says.begins refl
-          (lit< tt) refl) in
+      work.text_is (ninth text bytes (codes "VERDICT FREE") p.0 12 70 p.1 says.begins refl
+      (lit< tt) refl) in
       let free = report_free c.made c.begins in
       is_safe law steady one_tree one_form words old bytes text p.0 p.1 c free
-          (analysed_of c.name c.content c.made c.report (of_free c.made.verdict free))
+      (analysed_of c.name c.content c.made c.report (of_free c.made.verdict free))
 
   pub alarms_say : AlarmsCover words old old_out new_out
   alarms_say before bytes says =
       let p : (n : ℕ) × (bytes ≡ take n text) =
-          put_prefix old_out.sent new_out.sent before bytes text put.answer says.old_bytes
-          says.new_bytes put.written.bytes_put in
+      put_prefix old_out.sent new_out.sent before bytes text put.answer says.old_bytes
+      says.new_bytes put.written.bytes_put in
       let c = checked_of (command_of words) old new 65 work.course text (omega arith) work.cause
-          work.text_is (ninth text bytes (codes "VERDICT ALARMS") p.0 14 65 p.1 says.begins refl
-          (lit< tt) refl) in
+      work.text_is (ninth text bytes (codes "VERDICT ALARMS") p.0 14 65 p.1 says.begins refl
+      (lit< tt) refl) in
       is_covered law steady one_tree one_form words old bytes text p.0 p.1 c
-          (analysed_of c.name c.content c.made c.report (report_kept c.made c.begins))
+      (analysed_of c.name c.content c.made c.report (report_kept c.made c.begins))
 
 -- ---- what the definitions say alone
 
@@ -296,5 +305,9 @@ module _ (law : Theorem) (steady : Theorem_steady) (one_tree : OneTree) (one_for
   pub reported_covered : (words : List (List ℕ)) (old : World) → IsReportedAs words old Open
       → IsReportedCovered words old
   reported_covered words old r =
-      record { reported = r; foretold = reports_hold r.name r.text r.made r.report; live =
-      live_of steady r.text }
+      record {
+        reported = r;
+        foretold = reports_hold r.name r.text r.made r.report;
+        live =
+            live_of steady r.text;
+      }

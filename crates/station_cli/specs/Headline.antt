@@ -51,14 +51,14 @@ InLines component lines state =
     (me : ℕ) (task : TaskCode) (s : TaskState) (k : ℕ) (info : CellInfo) (cell : Numbers) (v : ℤ) →
     slice_get component.tasks me ≡ Some task → slice_get state.tasks me ≡ Some s →
     slice_get task.cells k ≡ Some info → slice_get s.own k ≡ Some cell → Contains cell v
-        → InLine lines info.path v
+    → InLine lines info.path v
 
 -- There is an alarm of that kind at that node, with the value, its size kept in the limit of
 -- bounds, in its range.
 abbrev pub AtAlarm : List (Entry Alarm) → Kind → Site → ℤ → Type 0
 AtAlarm alarms kind site value =
     (e : Entry Alarm) × Contains alarms e × (e.item.kind ≡ kind) × (e.item.site ≡ site)
-        × Holds (Span e.item.low e.item.high) (kept value)
+    × Holds (Span e.item.low e.item.high) (kept value)
 
 -- A run has not faulted, or its first fault is at an alarm; up to there each variable stays in its
 -- line.
@@ -78,7 +78,7 @@ abbrev pub NeverWaits : List ℕ → Type 0
 NeverWaits text =
     (component : Component) → IsProgram text component →
     (moves : List Move) (state : State) → run component moves (start component) ≡ Continues state
-        → NoneWaits component state
+    → NoneWaits component state
 
 -- ---- what was put
 
@@ -157,12 +157,12 @@ abbrev pub ReportsHold : Type 0
 ReportsHold =
     (name text : List ℕ) (made : Report) → IsReport name text made →
     (component : Component) → IsProgram text component → (moves : List Move)
-        → IsForetold component made (run component moves (start component))
+    → IsForetold component made (run component moves (start component))
 
 -- Where the verdict of the defined report is FREE, no run faults, and no task waits.
 abbrev pub FreeHolds : Type 0
 FreeHolds =
     (name text : List ℕ) (made : Report) → IsReport name text made → made.verdict ≡ Free →
     ((component : Component) → IsProgram text component → (moves : List Move)
-        → IsFaultless component made (run component moves (start component)))
+    → IsFaultless component made (run component moves (start component)))
     × NeverWaits text

@@ -68,7 +68,7 @@ pub record IsAlarm (name text : List ℕ) (tree : SourceTree) (unit : SourceUnit
 abbrev pub Precedes : Alarm → Alarm → Type 0
 Precedes a b =
     (a.site.node.0 < b.site.node.0)
-        ⊎ ((a.site.node ≡ b.site.node) × (kinds.code_of a.kind < kinds.code_of b.kind))
+    ⊎ ((a.site.node ≡ b.site.node) × (kinds.code_of a.kind < kinds.code_of b.kind))
 
 abbrev pub AreOrdered : List (Entry Alarm) → Type 0
 AreOrdered [] = Unit {0}
@@ -131,8 +131,13 @@ pub record IsRefusal (name text : List ℕ) (report : Report) : Type 0 where
   pub column : ℕ
   pub fault : IsFaultOf text code at
   pub position : IsPosition text at line column
-  pub verdict_is : report.verdict ≡ verdict.Refused (record { file = name; line = line; column =
-      column; code = code })
+  pub verdict_is : report.verdict ≡ verdict.Refused (record {
+    file = name;
+    line = line;
+    column =
+        column;
+    code = code;
+  })
   pub counted : IsCounted report
   pub waived : report.waived_count ≡ 0
 

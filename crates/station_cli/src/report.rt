@@ -183,7 +183,7 @@ fn alarm_entries(
 ) -> Result<Items<Entry<Alarm>>, AllocError>
     ensures { IfOk result (λ entries. (text : List ℕ) (is : IsAnalysable text tree.now) →
         AllByRecursion (λ hit. IsInBody is.unit hit.site.node) hits.now → AreEntriesOf name.now text
-            tree.now is.unit hits.now entries) }
+        tree.now is.unit hits.now entries) }
 {
     let mut entries = Items::new(alloc);
     for hit in hits {
@@ -215,8 +215,7 @@ fn entry_of(
 /// An alarm under its unit and the first name of the path that its statement assigns.
 fn alarm_of(alloc: Global, tree: &SourceTree, hit: Hit) -> Result<Alarm, AllocError>
     ensures alarm { IfOk result (λ alarm. IsAlarmOf hit alarm) }
-    ensures under
-        { IfOk result (λ alarm. IsNumbered tree.now → (unit : SourceUnit) → Contains tree.now.units
+    ensures under { IfOk result (λ alarm. IsNumbered tree.now → (unit : SourceUnit) → Contains tree.now.units
         unit → IsInBody unit hit.site.node →
         IsUnder unit alarm) }
 {
@@ -260,8 +259,7 @@ fn range_lines(
 ) -> Result<Items<RangeLine>, AllocError>
     ensures { IfOk result
         (λ lines. lines ≡ lines_of component.now.shared solution.now.ranges.shared.items
-        ++ flat_map (λ task. lines_of task.cells solution.now.ranges.own.items) component.now.tasks)
-            }
+        ++ flat_map (λ task. lines_of task.cells solution.now.ranges.own.items) component.now.tasks) }
 {
     let mut lines = Items::new(alloc);
     add_lines(

@@ -69,7 +69,7 @@ pub fn run<F: Files, S: Sink, L: Ledger>(
     ensures reported { (status : Status) → IsToldReported (map string_bytes words.now)
         (record { files = F.view files.old }) status →
         EndsRead (record { files = F.view files.old }) (record { files = F.view files.new })
-            (S.view out.old) (S.view out.new) status result }
+        (S.view out.old) (S.view out.new) status result }
     ensures usage { result ≡ Status.Usage → command_of (map string_bytes words.now) ≡ None }
     ensures misused { command_of (map string_bytes words.now) ≡ None
         → Ends Status.Usage (S.view out.old) (S.view out.new) result }
@@ -77,7 +77,7 @@ pub fn run<F: Files, S: Sink, L: Ledger>(
         (record { files = F.view files.old }) }
     ensures above { IsToldAbove (map string_bytes words.now) (record { files = F.view files.old }) →
         EndsRead (record { files = F.view files.old }) (record { files = F.view files.new })
-            (S.view out.old) (S.view out.new) Status.TooLong result }
+        (S.view out.old) (S.view out.new) Status.TooLong result }
     ensures read_fault { result ≡ Status.ReadFault → Rose (F.view files.old).faults
         (F.view files.new).faults }
     ensures write_fault { result ≡ Status.WriteFault → Rose (S.view out.old).faults
@@ -112,7 +112,7 @@ pub fn run_sure<L: Ledger>(
     ensures run { IsRun (map string_bytes words.now)
         (record { files = ⟦<SureFiles as Files>⟧.view files.old })
         (record { files = ⟦<SureFiles as Files>⟧.view files.new })
-            (⟦<SureSink as Port>⟧.view out.old) (⟦<SureSink as Port>⟧.view out.new) result }
+        (⟦<SureSink as Port>⟧.view out.old) (⟦<SureSink as Port>⟧.view out.new) result }
     ensures read { result ≡ Status.ReadFault → ⊥ }
     ensures write { result ≡ Status.WriteFault → ⊥ }
 {
@@ -128,7 +128,7 @@ fn work<F: Files, L: Ledger>(
 ) -> Result<Reply, NoMemory>
     ensures work { IfOk result (λ reply. IsWork (command_of (map string_bytes words.now))
         (record { files = F.view files.old }) (record { files = F.view files.new }) reply.status
-            reply.text.items) }
+        reply.text.items) }
     ensures same { (F.view files.new).contents ≡ (F.view files.old).contents }
     ensures calls { AtMostOnce (F.view files.old) (F.view files.new) }
 {
@@ -154,7 +154,7 @@ fn check_file<F: Files, L: Ledger>(
 ) -> Result<Reply, NoMemory>
     ensures work { IfOk result (λ reply. IsWork (Some (check name.now))
         (record { files = F.view files.old }) (record { files = F.view files.new }) reply.status
-            reply.text.items) }
+        reply.text.items) }
     ensures same { (F.view files.new).contents ≡ (F.view files.old).contents }
     ensures calls { AtMostOnce (F.view files.old) (F.view files.new) }
 {

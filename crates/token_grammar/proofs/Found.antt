@@ -6,7 +6,7 @@ use Rattle.token_grammar.specs.declared.token.Token.{Token}
 use Rattle.token_grammar.specs.declared.fault.ParseError.{ParseError}
 use Rattle.token_grammar.specs.declared.fault.ParseError.TheVariants as errors
 use Rattle.token_grammar.specs.Texts.{Lexeme, lexemes}
-use Rattle.token_grammar.specs.Input.{Input, Outcome, Parser, Reads, ReadsAs}
+use Rattle.token_grammar.specs.steps.Parsers.{Input, Outcome, Parser, Reads, ReadsAs}
 use Rattle.token_grammar.specs.Grammar.{Rule, lexemes_of, SpellsFront, IsGrammarFault, IsTooDeep}
 use Rattle.token_grammar.proofs.Laws.{input, Exact}
 use Rattle.token_grammar.proofs.Front.{spells, is_fault, is_too_deep}

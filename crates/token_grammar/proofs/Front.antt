@@ -4,7 +4,7 @@ use Rattle.std.proofs.lemmas.Bool.{le-ltb}
 use Rattle.std.proofs.lemmas.List.{append-nil}
 use Rattle.token_grammar.specs.Texts.{Lexeme}
 use Rattle.token_grammar.specs.declared.fault.ParseError.TheVariants.{Grammar, TooDeep}
-use Rattle.token_grammar.specs.Input.{Input, Stop, Outcome, Parser}
+use Rattle.token_grammar.specs.steps.Parsers.{Input, Stop, Outcome, Parser}
 use Rattle.token_grammar.specs.Grammar.{Word, Rule, lexemes_of, Within, Begins, Stops, SpellsFront, IsGrammarFault, IsTooDeep, max_depth}
 use Rattle.token_grammar.proofs.Laws.{input, ends, Deep, Cut, at_end, Read, Refused, Told, gate, Same, Exact, lexemes_of-append}
 

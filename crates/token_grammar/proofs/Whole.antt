@@ -5,7 +5,7 @@ use Rattle.std.proofs.lemmas.Bool.{le-ltb, lt-ltb}
 use Rattle.std.proofs.lemmas.List.{append-nil, length-append}
 use Rattle.token_grammar.specs.Texts.{Lexeme}
 use Rattle.token_grammar.specs.declared.fault.ParseError.TheVariants.{Grammar, TooDeep}
-use Rattle.token_grammar.specs.Input.{Input, Stop, Outcome, Parser}
+use Rattle.token_grammar.specs.steps.Parsers.{Input, Stop, Outcome, Parser}
 use Rattle.token_grammar.specs.Grammar.{Word, Rule, lexemes_of, Within, max_depth, Begins, Stops, Spells, IsLongestFront, IsTooDeep, IsWrong}
 use Rattle.token_grammar.proofs.Laws.{input, gate, Same, Exact, lexemes_of-append}
 use Rattle.token_grammar.proofs.Front.{spells, is_fault, is_too_deep, finds, one_value}

@@ -24,24 +24,39 @@ returns-in-Ok-clause-above g c =
 pub returns-in-Err-clause-complete : goal.returns-in-Err-clause-complete
 returns-in-Err-clause-complete g c =
     completes _ {new = record { files = g.F.Files.view c.work.new.files }}
-    (record { course = out_of_memory; cause = c.work.ensures.calls; status_is = refl; text_is =
-        refl })
+    (record {
+      course = out_of_memory;
+      cause = c.work.ensures.calls;
+      status_is = refl;
+      text_is =
+          refl;
+    })
     c.write_no_memory.ensures
 
 pub returns-in-Err-clause-misused : goal.returns-in-Err-clause-misused
 returns-in-Err-clause-misused g c =
     misused_ends (map string_bytes c.args.words.now) {old =
-        record { files = g.F.Files.view c.args.files.now }} {new =
-        record { files = g.F.Files.view c.work.new.files }}
-    (record { course = out_of_memory; cause = c.work.ensures.calls; status_is = refl; text_is =
-        refl })
+    record { files = g.F.Files.view c.args.files.now }} {new =
+    record { files = g.F.Files.view c.work.new.files }}
+    (record {
+      course = out_of_memory;
+      cause = c.work.ensures.calls;
+      status_is = refl;
+      text_is =
+          refl;
+    })
     c.write_no_memory.ensures
 
 pub returns-in-Err-clause-above : goal.returns-in-Err-clause-above
 returns-in-Err-clause-above g c =
     above_ends _ {new = record { files = g.F.Files.view c.work.new.files }}
-    (record { course = out_of_memory; cause = c.work.ensures.calls; status_is = refl; text_is =
-        refl })
+    (record {
+      course = out_of_memory;
+      cause = c.work.ensures.calls;
+      status_is = refl;
+      text_is =
+          refl;
+    })
     c.write_no_memory.ensures
 
 pub returns-in-Ok-clause-free : goal.returns-in-Ok-clause-free
@@ -59,21 +74,31 @@ returns-in-Ok-clause-alarms g c =
 pub returns-in-Err-clause-free : goal.returns-in-Err-clause-free
 returns-in-Err-clause-free g c =
     free_says c.headline.ensures.covered c.headline.ensures.steady c.text_laws.ensures.one_tree
-        c.form_laws.ensures.one (map string_bytes c.args.words.now) {old =
-        record { files = g.F.Files.view c.args.files.now }} {new =
-        record { files = g.F.Files.view c.work.new.files }}
-    (record { course = out_of_memory; cause = c.work.ensures.calls; status_is = refl; text_is =
-        refl })
+    c.form_laws.ensures.one (map string_bytes c.args.words.now) {old =
+    record { files = g.F.Files.view c.args.files.now }} {new =
+    record { files = g.F.Files.view c.work.new.files }}
+    (record {
+      course = out_of_memory;
+      cause = c.work.ensures.calls;
+      status_is = refl;
+      text_is =
+          refl;
+    })
     c.write_no_memory.ensures
 
 pub returns-in-Err-clause-alarms : goal.returns-in-Err-clause-alarms
 returns-in-Err-clause-alarms g c =
     alarms_say c.headline.ensures.covered c.headline.ensures.steady c.text_laws.ensures.one_tree
-        c.form_laws.ensures.one (map string_bytes c.args.words.now) {old =
-        record { files = g.F.Files.view c.args.files.now }} {new =
-        record { files = g.F.Files.view c.work.new.files }}
-    (record { course = out_of_memory; cause = c.work.ensures.calls; status_is = refl; text_is =
-        refl })
+    c.form_laws.ensures.one (map string_bytes c.args.words.now) {old =
+    record { files = g.F.Files.view c.args.files.now }} {new =
+    record { files = g.F.Files.view c.work.new.files }}
+    (record {
+      course = out_of_memory;
+      cause = c.work.ensures.calls;
+      status_is = refl;
+      text_is =
+          refl;
+    })
     c.write_no_memory.ensures
 
 pub returns-in-Ok-clause-reported : goal.returns-in-Ok-clause-reported
@@ -84,47 +109,62 @@ returns-in-Ok-clause-reported g c =
 pub returns-in-Err-clause-reported : goal.returns-in-Err-clause-reported
 returns-in-Err-clause-reported g c =
     reported_ends c.one_report.ensures (map string_bytes c.args.words.now) {old =
-        record { files = g.F.Files.view c.args.files.now }} {new =
-        record { files = g.F.Files.view c.work.new.files }}
-    (record { course = out_of_memory; cause = c.work.ensures.calls; status_is = refl; text_is =
-        refl })
+    record { files = g.F.Files.view c.args.files.now }} {new =
+    record { files = g.F.Files.view c.work.new.files }}
+    (record {
+      course = out_of_memory;
+      cause = c.work.ensures.calls;
+      status_is = refl;
+      text_is =
+          refl;
+    })
     c.write_no_memory.ensures
 
 pub returns-in-Ok-clause-clean : goal.returns-in-Ok-clause-clean
 returns-in-Ok-clause-clean g c = λ e.
     reported_safe c.headline.ensures.covered c.headline.ensures.steady c.text_laws.ensures.one_tree
-        c.form_laws.ensures.one c.text_laws.ensures.not_both (map string_bytes c.args.words.now) _
+    c.form_laws.ensures.one c.text_laws.ensures.not_both (map string_bytes c.args.words.now) _
     (status_reported (map string_bytes c.args.words.now) c.in-Ok.ensures.work
-        (rw c.deref.ensures.value at c.write_line.ensures) Clean e refl)
+    (rw c.deref.ensures.value at c.write_line.ensures) Clean e refl)
 
 pub returns-in-Err-clause-clean : goal.returns-in-Err-clause-clean
 returns-in-Err-clause-clean g c = λ e.
     reported_safe c.headline.ensures.covered c.headline.ensures.steady c.text_laws.ensures.one_tree
-        c.form_laws.ensures.one c.text_laws.ensures.not_both (map string_bytes c.args.words.now) _
+    c.form_laws.ensures.one c.text_laws.ensures.not_both (map string_bytes c.args.words.now) _
     (status_reported (map string_bytes c.args.words.now) {old =
-        record { files = g.F.Files.view c.args.files.now }} {new =
-        record { files = g.F.Files.view c.work.new.files }}
-        (record { course = out_of_memory; cause = c.work.ensures.calls; status_is = refl; text_is =
-        refl }) c.write_no_memory.ensures Clean e refl)
+    record { files = g.F.Files.view c.args.files.now }} {new =
+    record { files = g.F.Files.view c.work.new.files }}
+    (record {
+      course = out_of_memory;
+      cause = c.work.ensures.calls;
+      status_is = refl;
+      text_is =
+          refl;
+    }) c.write_no_memory.ensures Clean e refl)
 
 pub returns-in-Ok-clause-open : goal.returns-in-Ok-clause-open
 returns-in-Ok-clause-open g c = λ e.
     reported_covered c.headline.ensures.covered c.headline.ensures.steady
-        c.text_laws.ensures.one_tree c.form_laws.ensures.one c.text_laws.ensures.not_both
-        (map string_bytes c.args.words.now) _
+    c.text_laws.ensures.one_tree c.form_laws.ensures.one c.text_laws.ensures.not_both
+    (map string_bytes c.args.words.now) _
     (status_reported (map string_bytes c.args.words.now) c.in-Ok.ensures.work
-        (rw c.deref.ensures.value at c.write_line.ensures) Open e refl)
+    (rw c.deref.ensures.value at c.write_line.ensures) Open e refl)
 
 pub returns-in-Err-clause-open : goal.returns-in-Err-clause-open
 returns-in-Err-clause-open g c = λ e.
     reported_covered c.headline.ensures.covered c.headline.ensures.steady
-        c.text_laws.ensures.one_tree c.form_laws.ensures.one c.text_laws.ensures.not_both
-        (map string_bytes c.args.words.now) _
+    c.text_laws.ensures.one_tree c.form_laws.ensures.one c.text_laws.ensures.not_both
+    (map string_bytes c.args.words.now) _
     (status_reported (map string_bytes c.args.words.now) {old =
-        record { files = g.F.Files.view c.args.files.now }} {new =
-        record { files = g.F.Files.view c.work.new.files }}
-        (record { course = out_of_memory; cause = c.work.ensures.calls; status_is = refl; text_is =
-        refl }) c.write_no_memory.ensures Open e refl)
+    record { files = g.F.Files.view c.args.files.now }} {new =
+    record { files = g.F.Files.view c.work.new.files }}
+    (record {
+      course = out_of_memory;
+      cause = c.work.ensures.calls;
+      status_is = refl;
+      text_is =
+          refl;
+    }) c.write_no_memory.ensures Open e refl)
 
 pub returns-in-Ok-clause-refused : goal.returns-in-Ok-clause-refused
 returns-in-Ok-clause-refused g c =
