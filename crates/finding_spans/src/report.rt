@@ -2,9 +2,9 @@
 
 use iec_tables::fault::FaultCode;
 use iec_tables::kind::Kind;
-use tree_items::Items;
 use st_tree::{PlanRefusal, Site};
 use station_ports::texts::Name;
+use tree_items::Items;
 
 /// The number of alarms of a report.
 #[derive(Clone, Copy, Debug, PartialEq, Eq)]

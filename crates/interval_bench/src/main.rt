@@ -2,6 +2,8 @@
 // results of the operators, and comparisons with each concrete result over types of 8 bits.
 #![tactic(auto)]
 
+#[cfg(test)]
+mod grid_tests;
 mod operation;
 #[cfg(test)]
 mod tables;

@@ -1,6 +1,6 @@
 // The tables of results, and results of intervals over types of 8 bits against each concrete result.
 use crate::operation::{Operation, apply};
-use crate::tables::{ARITHMETIC, CHOICES, Case, PATTERNS, SHIFTS, WORKED};
+use crate::tables::{ARITHMETIC, CHOICES, CUT, Case, PATTERNS, SHIFTS, WORKED};
 use iec_tables::elem::Elem;
 use interval_domain::comparison::{compare, cut};
 use interval_domain::interval::Interval;
@@ -49,6 +49,7 @@ fn worked_results(rt: HostRuntime) {
     check_table(&rt, &CHOICES, "choices");
     check_table(&rt, &PATTERNS, "patterns");
     check_table(&rt, &SHIFTS, "shifts");
+    check_table(&rt, &CUT, "cut");
 }
 
 fn check_table(rt: &impl Abort, cases: &[Case], table: &str) {

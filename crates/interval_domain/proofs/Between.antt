@@ -6,7 +6,7 @@ use Rattle.interval_domain.specs.Interval.{Interval, Empty, Span, Holds, IsWithi
 use Rattle.interval_domain.specs.Operators.{kept}
 use Rattle.interval_domain.specs.Arithmetic.{hull_of}
 use Rattle.interval_domain.specs.Stored.{span-ordered, span-reversed}
-use Rattle.interval_domain.proofs.Bounds.{kept-le}
+use Rattle.interval_domain.proofs.Bounds.{kept-le, through}
 
 -- z lies between p and q, in either order
 abbrev pub IsBetween : ℤ → ℤ → ℤ → Type 0
@@ -88,9 +88,6 @@ hull_of-spans p q r s =
     let low = least-below p q r s in
     let high = greatest-above p q r s in
     span-ordered (int_min (int_min p q) (int_min r s)) (int_max (int_max p q) (int_max r s)) (through (int_min (int_min p q) (int_min r s)) p (int_max (int_max p q) (int_max r s)) low.0 high.0)
-  where
-    through : (a b c : ℤ) → a ≤ℤ b → b ≤ℤ c → a ≤ℤ c
-    through a b c h k = omega (arith, ints)
 
 -- a span within an interval, which may be out of order
 pub span-in : (a b c d : ℤ) → c ≤ℤ a → b ≤ℤ d → IsWithin (span a b) (Span c d)
@@ -104,3 +101,15 @@ pub meet-right : (i k : Interval) → IsWithin (meet i k) k
 meet-right Empty k = tt
 meet-right (Span a b) Empty = tt
 meet-right (Span a b) (Span c d) = span-in (int_max a c) (int_min b d) c d (omega (arith, ints, clamps)) (omega (arith, ints, clamps))
+
+-- it is in order
+pub meet-ordered : (i k : Interval) → IsOrdered (meet i k)
+meet-ordered Empty k = tt
+meet-ordered (Span a b) Empty = tt
+meet-ordered (Span a b) (Span c d) = span-in-order (int_max a c) (int_min b d)
+  where
+    span-in-order : (a b : ℤ) → IsOrdered (span a b)
+    span-in-order a b =
+        by_lt_z b a
+        (λ below. subst (λ (i : Interval). IsOrdered i) (sym (span-reversed a b below)) tt)
+        (λ ordered. subst (λ (i : Interval). IsOrdered i) (sym (span-ordered a b ordered)) ordered)

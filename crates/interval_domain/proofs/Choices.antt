@@ -5,12 +5,9 @@ use Rattle.std.specs.Ordering.{int_eq}
 use Rattle.std.proofs.lemmas.Int.{ints, clamps}
 use Rattle.std.proofs.lemmas.Bool.{cases_Bool}
 use Rattle.std.proofs.lemmas.Bool.Decides.{Decides-int_eq}
-use Rattle.iec_tables.specs.declared.elem.Elem.{Elem}
 use Rattle.interval_domain.specs.Interval.{Interval, Empty, Span, Holds, holds, IsWithin, is_within, is_empty, span, hull}
-use Rattle.interval_domain.specs.Operators.{range_of, typed}
-use Rattle.interval_domain.specs.Selection.{least_of, greatest_of, limited, chosen, min_row, max_row, limit_row, sel_row, given, HoldsAll, MeetsPlainLaws, MeetsTernaryLaws, MeetsConversionLaws}
+use Rattle.interval_domain.specs.Selection.{least_of, greatest_of, limited, chosen, min_row, max_row, limit_row, sel_row, given, HoldsAll}
 use Rattle.interval_domain.specs.Stored.{span-ordered}
-use Rattle.interval_domain.proofs.Laws.{meet-holds, meet-within}
 use Rattle.interval_domain.proofs.Between.{hull-left, hull-right}
 
 pub min-spans : (a b c d : ℤ) → a ≤ℤ b → c ≤ℤ d → span (int_min a c) (int_min b d) ≡ min_row (Span a b) (Span c d)
@@ -19,47 +16,35 @@ min-spans a b c d h k = span-ordered (int_min a c) (int_min b d) (omega (arith, 
 pub max-spans : (a b c d : ℤ) → a ≤ℤ b → c ≤ℤ d → span (int_max a c) (int_max b d) ≡ max_row (Span a b) (Span c d)
 max-spans a b c d h k = span-ordered (int_max a c) (int_max b d) (omega (arith, ints, clamps))
 
-held-min : (i j : Interval) → HoldsAll least_of i j (min_row i j)
+pub held-min : (i j : Interval) → HoldsAll least_of i j (min_row i j)
 held-min Empty j x y h k = absurd h
 held-min (Span a b) Empty x y h k = absurd k
 held-min (Span a b) (Span c d) x y h k = (omega (arith, ints, clamps), omega (arith, ints, clamps))
 
-held-max : (i j : Interval) → HoldsAll greatest_of i j (max_row i j)
+pub held-max : (i j : Interval) → HoldsAll greatest_of i j (max_row i j)
 held-max Empty j x y h k = absurd h
 held-max (Span a b) Empty x y h k = absurd k
 held-max (Span a b) (Span c d) x y h k = (omega (arith, ints, clamps), omega (arith, ints, clamps))
 
-larger-min : (i j k l : Interval) → IsWithin i k → IsWithin j l → IsWithin (min_row i j) (min_row k l)
+pub larger-min : (i j k l : Interval) → IsWithin i k → IsWithin j l → IsWithin (min_row i j) (min_row k l)
 larger-min Empty j k l h m = tt
 larger-min (Span a b) Empty k l h m = tt
 larger-min (Span a b) (Span c d) Empty l h m = absurd h
 larger-min (Span a b) (Span c d) (Span e f) Empty h m = absurd m
 larger-min (Span a b) (Span c d) (Span e f) (Span g n) h m = (omega (arith, ints, clamps), omega (arith, ints, clamps))
 
-larger-max : (i j k l : Interval) → IsWithin i k → IsWithin j l → IsWithin (max_row i j) (max_row k l)
+pub larger-max : (i j k l : Interval) → IsWithin i k → IsWithin j l → IsWithin (max_row i j) (max_row k l)
 larger-max Empty j k l h m = tt
 larger-max (Span a b) Empty k l h m = tt
 larger-max (Span a b) (Span c d) Empty l h m = absurd h
 larger-max (Span a b) (Span c d) (Span e f) Empty h m = absurd m
 larger-max (Span a b) (Span c d) (Span e f) (Span g n) h m = (omega (arith, ints, clamps), omega (arith, ints, clamps))
 
-pub laws-min : (i j out : Interval) → out ≡ min_row i j → MeetsPlainLaws least_of min_row i j out
-laws-min i j out e =
-    subst (λ (out : Interval). MeetsPlainLaws least_of min_row i j out) (sym e)
-    (record { held = held-min i j; larger = larger-min i j })
+pub held-limit : (mn i mx : Interval) (x y z : ℤ) → Holds mn x → Holds i y → Holds mx z → Holds (limit_row mn i mx) (limited x y z)
+held-limit mn i mx x y z h k l = held-min (max_row i mn) mx (greatest_of y x) z (held-max i mn y x k h) l
 
-pub laws-max : (i j out : Interval) → out ≡ max_row i j → MeetsPlainLaws greatest_of max_row i j out
-laws-max i j out e =
-    subst (λ (out : Interval). MeetsPlainLaws greatest_of max_row i j out) (sym e)
-    (record { held = held-max i j; larger = larger-max i j })
-
-pub laws-limit : (mn i mx out : Interval) → out ≡ limit_row mn i mx → MeetsTernaryLaws limited limit_row mn i mx out
-laws-limit mn i mx out e =
-    subst (λ (out : Interval). MeetsTernaryLaws limited limit_row mn i mx out) (sym e)
-    (record {
-      held = λ x y z h k l. held-min (max_row i mn) mx (greatest_of y x) z (held-max i mn y x k h) l;
-      larger = λ a b c h k l. larger-min (max_row i mn) mx (max_row b a) c (larger-max i mn b a k h) l;
-    })
+pub larger-limit : (mn i mx a b c : Interval) → IsWithin mn a → IsWithin i b → IsWithin mx c → IsWithin (limit_row mn i mx) (limit_row a b c)
+larger-limit mn i mx a b c h k l = larger-min (max_row i mn) mx (max_row b a) c (larger-max i mn b a k h) l
 
 -- ---- SEL
 
@@ -84,7 +69,7 @@ given-holds test i z e h = rw e h
 none-empty : (g i j : Interval) (x y z : ℤ) → Holds g x → Holds i y → Holds j z → not (is_empty g || is_empty i || is_empty j) ≡ true
 none-empty g i j x y z h k l = rw (held-not-empty g x h, held-not-empty i y k, held-not-empty j z l) refl
 
-held-sel : (g i j : Interval) (x y z : ℤ) → Holds g x → Holds i y → Holds j z → Holds (sel_row g i j) (chosen x y z)
+pub held-sel : (g i j : Interval) (x y z : ℤ) → Holds g x → Holds i y → Holds j z → Holds (sel_row g i j) (chosen x y z)
 held-sel g i j x y z h k l =
     given-holds _ _ _ (none-empty g i j x y z h k l)
     (elim (cases_Bool (int_eq x (pos 0))) [
@@ -143,22 +128,10 @@ hull-larger (Span a b) Empty (Span e f) (Span g n) h m = (omega (arith, ints, cl
 hull-larger (Span a b) (Span c d) (Span e f) Empty h m = absurd m
 hull-larger (Span a b) (Span c d) (Span e f) (Span g n) h m = (omega (arith, ints, clamps), omega (arith, ints, clamps))
 
-larger-sel : (g i j k l m : Interval) → IsWithin g k → IsWithin i l → IsWithin j m → IsWithin (sel_row g i j) (sel_row k l m)
+pub larger-sel : (g i j k l m : Interval) → IsWithin g k → IsWithin i l → IsWithin j m → IsWithin (sel_row g i j) (sel_row k l m)
 larger-sel g i j k l m p q r =
     given-larger _ _ _ _ (all-larger g i j k l m p q r)
     (hull-larger (given (holds g (pos 0)) i) (given (not (is_within g (Span (pos 0) (pos 0)))) j)
     (given (holds k (pos 0)) l) (given (not (is_within k (Span (pos 0) (pos 0)))) m)
     (given-larger (holds g (pos 0)) (holds k (pos 0)) i l (zero-larger g k p) q)
     (given-larger (not (is_within g (Span (pos 0) (pos 0)))) (not (is_within k (Span (pos 0) (pos 0)))) j m (other-larger g k p) r))
-
-pub laws-sel : (g i j out : Interval) → out ≡ sel_row g i j → MeetsTernaryLaws chosen sel_row g i j out
-laws-sel g i j out e =
-    subst (λ (out : Interval). MeetsTernaryLaws chosen sel_row g i j out) (sym e)
-    (record { held = held-sel g i j; larger = larger-sel g i j })
-
--- ---- conversions
-
-pub laws-convert : (t : Elem) (i out : Interval) → out ≡ typed t i → MeetsConversionLaws t i out
-laws-convert t i out e =
-    subst (λ (out : Interval). MeetsConversionLaws t i out) (sym e)
-    (record { held = λ x h r. meet-holds i (range_of t) x h r; larger = λ k h. meet-within i k (range_of t) h })

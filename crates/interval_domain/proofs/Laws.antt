@@ -6,9 +6,9 @@ use Rattle.iec_tables.specs.declared.elem.Elem.{Elem}
 use Rattle.iec_tables.specs.declared.elem.Elem.TheVariants.{Sint, Int, Dint, Lint, Usint, Uint, Udint, Ulint, Bool, Byte, Word, Dword, Lword, Time}
 use Rattle.iec_tables.specs.Types as types
 use Rattle.interval_domain.specs.Interval.{Interval, Empty, Span, Holds, IsWithin, span, meet}
-use Rattle.interval_domain.specs.Operators.{kept, range_of, sum_of, difference_of, add_raw, sub_raw, typed, HoldsResults, HoldsTyped, IsLeast, GrowsWith, MeetsLaws}
+use Rattle.interval_domain.specs.Operators.{kept, range_of, sum_of, difference_of, add_raw, sub_raw, HoldsResults, IsLeast, GrowsWith}
 use Rattle.interval_domain.specs.Stored.{span-ordered, span-reversed}
-use Rattle.interval_domain.proofs.Bounds.{kept-le}
+use Rattle.interval_domain.proofs.Bounds.{kept-le, both-ends}
 
 -- ---- spans and meets
 
@@ -61,10 +61,6 @@ kept-between l h z p q r s = omega (arith, ints, clamps)
 pub kept-typed : (t : Elem) (z : ℤ) → Holds (range_of t) z → kept z ≡ z
 kept-typed t z h = kept-between (types.low_of t) (types.high_of t) z (range-kept t).0 (range-kept t).1 h.0 h.1
 
-pub held-typed : (op : ℤ → ℤ → ℤ) (t : Elem) (a b raw : Interval) → HoldsResults op a b raw → HoldsTyped op t a b (typed t raw)
-held-typed op t a b raw all x y h k r =
-    meet-holds raw (range_of t) (op x y) (subst (λ (z : ℤ). Holds raw z) (kept-typed t (op x y) r) (all x y h k)) r
-
 -- ---- sums and differences
 
 pub held-add : (a b : Interval) → HoldsResults sum_of a b (add_raw a b)
@@ -101,17 +97,13 @@ larger-sub (Span a b) (Span c d) (Span e f) (Span g i) h m =
 abbrev pub IsSpan : Interval → ℤ → ℤ → Type 0
 IsSpan i a b = (i ≡ Span a b) × (a ≤ℤ b)
 
-ends-within : (l h : ℤ) (j : Interval) → Holds j l → Holds j h → IsWithin (Span l h) j
-ends-within l h Empty p q = absurd p
-ends-within l h (Span a b) p q = (p.0, q.1)
-
 spans-least-add : (a b c d : ℤ) → a ≤ℤ b → c ≤ℤ d → IsLeast sum_of (Span a b) (Span c d) (add_raw (Span a b) (Span c d))
 spans-least-add a b c d p q j all =
-    ends-within _ _ j (all a c (omega (arith, ints), p) (omega (arith, ints), q)) (all b d (p, omega (arith, ints)) (q, omega (arith, ints)))
+    both-ends _ _ j (all a c (omega (arith, ints), p) (omega (arith, ints), q)) (all b d (p, omega (arith, ints)) (q, omega (arith, ints)))
 
 spans-least-sub : (a b c d : ℤ) → a ≤ℤ b → c ≤ℤ d → IsLeast difference_of (Span a b) (Span c d) (sub_raw (Span a b) (Span c d))
 spans-least-sub a b c d p q j all =
-    ends-within _ _ j (all a d (omega (arith, ints), p) (q, omega (arith, ints))) (all b c (p, omega (arith, ints)) (omega (arith, ints), q))
+    both-ends _ _ j (all a d (omega (arith, ints), p) (q, omega (arith, ints))) (all b c (p, omega (arith, ints)) (omega (arith, ints), q))
 
 pub least-add : (i j r : Interval) (a b c d : ℤ) → IsSpan i a b → IsSpan j c d → r ≡ add_raw i j → IsLeast sum_of i j r
 least-add i j r a b c d p q e =
@@ -127,25 +119,3 @@ least-sub i j r a b c d p q e =
 
 pub least-empty : (op : ℤ → ℤ → ℤ) (i j r : Interval) → r ≡ Empty → IsLeast op i j r
 least-empty op i j r e = subst (λ (r : Interval). IsLeast op i j r) (sym e) (λ k all. tt)
-
--- ---- all laws together
-
-laws : (op : ℤ → ℤ → ℤ) (row : Interval → Interval → Interval) (t : Elem) (a b : Interval)
-    → HoldsResults op a b (row a b) → IsLeast op a b (row a b) → GrowsWith row a b (row a b)
-    → MeetsLaws op row t a b (row a b) (typed t (row a b))
-laws op row t a b all least larger = record {
-  held = all;
-  least = least;
-  held_typed = held-typed op t a b (row a b) all;
-  larger = larger;
-  larger_typed = λ c d h k. meet-within (row a b) (row c d) (range_of t) (larger c d h k);
-}
-
--- for results that are given by equations
-pub laws-at : (op : ℤ → ℤ → ℤ) (row : Interval → Interval → Interval) (t : Elem) (a b raw out : Interval)
-    → HoldsResults op a b (row a b) → GrowsWith row a b (row a b)
-    → IsLeast op a b raw → raw ≡ row a b → out ≡ typed t (row a b) → MeetsLaws op row t a b raw out
-laws-at op row t a b raw out all larger least e f =
-    subst (λ (raw : Interval). MeetsLaws op row t a b raw out) (sym e)
-    (subst (λ (out : Interval). MeetsLaws op row t a b (row a b) out) (sym f)
-    (laws op row t a b all (subst (λ (r : Interval). IsLeast op a b r) e least) larger))

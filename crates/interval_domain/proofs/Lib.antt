@@ -2,6 +2,7 @@ pub mod Between
 pub mod Bounds
 pub mod Choices
 pub mod Laws
+pub mod OnGrid
 pub mod OneGrid
 pub mod Patterns
 pub mod Products
@@ -10,6 +11,7 @@ pub mod Remainders
 pub mod Rounding
 pub mod Searching
 pub mod Sets
+pub mod Shapes
 pub mod Signs
 pub mod Tests
 pub mod Turning

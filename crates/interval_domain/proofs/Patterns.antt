@@ -14,11 +14,12 @@ use Rattle.iec_tables.specs.declared.elem.Elem.TheVariants.{Sint, Int, Dint, Lin
 use Rattle.interval_domain.specs.Interval.{Interval, Empty, Span, Holds, IsWithin, IsOrdered, span}
 use Rattle.interval_domain.specs.Selection.{HoldsAll}
 use Rattle.iec_tables.specs.Types.{width_of}
-use Rattle.interval_domain.specs.Bits.{all_ones, bits_range, words, and_of, or_of, xor_of, not_of, exact_or, digits, ones_above, IsOnesAbove, and_row, or_row, xor_row, mirrored, not_row, IsLeastOfAll, MeetsBitLaws, MeetsNotLaws}
+use Rattle.interval_domain.specs.Bits.{all_ones, bits_range, patterns_in, words, and_of, or_of, xor_of, not_of, exact_or, digits, ones_above, IsOnesAbove, and_row, or_row, xor_row, mirrored, not_row, cut_row, cut_not_row, IsLeastOfAll}
 use Rattle.interval_domain.specs.Stored.{span-ordered}
-use Rattle.interval_domain.proofs.Laws.{span-holds, span-within}
-use Rattle.interval_domain.proofs.Between.{holds-within}
+use Rattle.interval_domain.proofs.Laws.{span-holds, span-within, meet-within}
+use Rattle.interval_domain.proofs.Between.{holds-within, meet-right, meet-ordered}
 use Rattle.interval_domain.proofs.Tests.{eq-is, eq-yes}
+use Rattle.interval_domain.proofs.Bounds.{through, both-ends}
 
 -- ---- binary digits
 
@@ -368,9 +369,6 @@ greater-natural a b d h k = omega (arith, ints, clamps)
 zero-le : pos 0 ≤ℤ pos 0
 zero-le = omega (arith, ints)
 
-through : (a b c : ℤ) → a ≤ℤ b → b ≤ℤ c → a ≤ℤ c
-through a b c h k = omega (arith, ints)
-
 larger-and : (i j : Interval) → IsOrdered i → IsOrdered j → IsWithin i words → IsWithin j words
     → (k l : Interval) → IsWithin i k → IsWithin j l → IsWithin (and_row i j) (and_row k l)
 larger-and Empty j o p v w k l h m = tt
@@ -432,10 +430,6 @@ truths-of a b o h k =
         | inr f ↦ subst (λ (i : Interval). IsTruths i) (λ n. Span (sym e n) (sym f n)) always
       ]
     ]
-
-both-ends : (l h : ℤ) (j : Interval) → Holds j l → Holds j h → IsWithin (Span l h) j
-both-ends l h Empty p q = absurd p
-both-ends l h (Span a b) p q = (p.0, q.1)
 
 holds-zero : Holds (Span (pos 0) (pos 0)) (pos 0)
 holds-zero = (omega (arith, ints), omega (arith, ints))
@@ -562,30 +556,51 @@ bits-words t (Span a b) h = (h.0, through b (all_ones t) (pos (2 ^ 64 - 1)) h.1 
 at-one : (t : Elem) (i : Interval) → width_of t ≡ 1 → IsWithin i (bits_range t) → IsWithin i (Span (pos 0) (pos 1))
 at-one t i e h = subst (λ (w : ℕ). IsWithin i (Span (pos 0) (pos (2 ^ w - 1)))) e h
 
-laws-of : (op : ℤ → ℤ → ℤ) (row : Interval → Interval → Interval) (t : Elem) (i j out : Interval)
-    → HoldsAll op i j (row i j) → ((k l : Interval) → IsWithin i k → IsWithin j l → IsWithin (row i j) (row k l))
-    → (width_of t ≡ 1 → IsLeastOfAll op i j (row i j)) → out ≡ row i j → MeetsBitLaws op row t i j out
-laws-of op row t i j out held larger least e =
-    subst (λ (out : Interval). MeetsBitLaws op row t i j out) (sym e)
-    (record { held = held; larger = larger; occurring = least })
+-- of operands that are cut to the patterns of a type
+cut-words : (t : Elem) (i : Interval) → IsWithin (patterns_in (width_of t) i) words
+cut-words t i = bits-words t (patterns_in (width_of t) i) (meet-right i (bits_range t))
 
-pub laws-and : (t : Elem) (i j out : Interval) → IsOrdered i × IsOrdered j → IsWithin i (bits_range t) → IsWithin j (bits_range t)
-    → out ≡ and_row i j → MeetsBitLaws and_of and_row t i j out
-laws-and t i j out o h k e =
-    laws-of and_of and_row t i j out (held-and i j (bits-words t i h) (bits-words t j k)) (larger-and i j o.0 o.1 (bits-words t i h) (bits-words t j k))
-    (λ one. least-bool and_of and_row empty-and least-and i j o.0 o.1 (at-one t i one h) (at-one t j one k)) e
+cut-truths : (t : Elem) (i : Interval) → width_of t ≡ 1 → IsWithin (patterns_in (width_of t) i) (Span (pos 0) (pos 1))
+cut-truths t i one = at-one t (patterns_in (width_of t) i) one (meet-right i (bits_range t))
 
-pub laws-or : (t : Elem) (i j out : Interval) → IsOrdered i × IsOrdered j → IsWithin i (bits_range t) → IsWithin j (bits_range t)
-    → out ≡ or_row i j → MeetsBitLaws or_of or_row t i j out
-laws-or t i j out o h k e =
-    laws-of or_of or_row t i j out (held-or i j (bits-words t i h) (bits-words t j k)) (larger-or i j o.0 o.1 (bits-words t i h) (bits-words t j k))
-    (λ one. least-bool or_of or_row empty-or least-or i j o.0 o.1 (at-one t i one h) (at-one t j one k)) e
+pub cut-held-and : (t : Elem) (i j : Interval) → HoldsAll and_of (patterns_in (width_of t) i) (patterns_in (width_of t) j) (cut_row and_row t i j)
+cut-held-and t i j = held-and (patterns_in (width_of t) i) (patterns_in (width_of t) j) (cut-words t i) (cut-words t j)
 
-pub laws-xor : (t : Elem) (i j out : Interval) → IsOrdered i × IsOrdered j → IsWithin i (bits_range t) → IsWithin j (bits_range t)
-    → out ≡ xor_row i j → MeetsBitLaws xor_of xor_row t i j out
-laws-xor t i j out o h k e =
-    laws-of xor_of xor_row t i j out (held-xor i j (bits-words t i h) (bits-words t j k)) (larger-xor i j o.0 o.1 (bits-words t i h) (bits-words t j k))
-    (λ one. least-bool xor_of xor_row empty-xor least-xor i j o.0 o.1 (at-one t i one h) (at-one t j one k)) e
+pub cut-larger-and : (t : Elem) (i j k l : Interval) → IsWithin i k → IsWithin j l → IsWithin (cut_row and_row t i j) (cut_row and_row t k l)
+cut-larger-and t i j k l h m =
+    larger-and (patterns_in (width_of t) i) (patterns_in (width_of t) j) (meet-ordered i (bits_range t)) (meet-ordered j (bits_range t)) (cut-words t i) (cut-words t j)
+    (patterns_in (width_of t) k) (patterns_in (width_of t) l) (meet-within i k (bits_range t) h) (meet-within j l (bits_range t) m)
+
+pub cut-least-and : (t : Elem) (i j : Interval) → width_of t ≡ 1 → IsLeastOfAll and_of (patterns_in (width_of t) i) (patterns_in (width_of t) j) (cut_row and_row t i j)
+cut-least-and t i j one =
+    least-bool and_of and_row empty-and least-and (patterns_in (width_of t) i) (patterns_in (width_of t) j) (meet-ordered i (bits_range t)) (meet-ordered j (bits_range t))
+    (cut-truths t i one) (cut-truths t j one)
+
+pub cut-held-or : (t : Elem) (i j : Interval) → HoldsAll or_of (patterns_in (width_of t) i) (patterns_in (width_of t) j) (cut_row or_row t i j)
+cut-held-or t i j = held-or (patterns_in (width_of t) i) (patterns_in (width_of t) j) (cut-words t i) (cut-words t j)
+
+pub cut-larger-or : (t : Elem) (i j k l : Interval) → IsWithin i k → IsWithin j l → IsWithin (cut_row or_row t i j) (cut_row or_row t k l)
+cut-larger-or t i j k l h m =
+    larger-or (patterns_in (width_of t) i) (patterns_in (width_of t) j) (meet-ordered i (bits_range t)) (meet-ordered j (bits_range t)) (cut-words t i) (cut-words t j)
+    (patterns_in (width_of t) k) (patterns_in (width_of t) l) (meet-within i k (bits_range t) h) (meet-within j l (bits_range t) m)
+
+pub cut-least-or : (t : Elem) (i j : Interval) → width_of t ≡ 1 → IsLeastOfAll or_of (patterns_in (width_of t) i) (patterns_in (width_of t) j) (cut_row or_row t i j)
+cut-least-or t i j one =
+    least-bool or_of or_row empty-or least-or (patterns_in (width_of t) i) (patterns_in (width_of t) j) (meet-ordered i (bits_range t)) (meet-ordered j (bits_range t))
+    (cut-truths t i one) (cut-truths t j one)
+
+pub cut-held-xor : (t : Elem) (i j : Interval) → HoldsAll xor_of (patterns_in (width_of t) i) (patterns_in (width_of t) j) (cut_row xor_row t i j)
+cut-held-xor t i j = held-xor (patterns_in (width_of t) i) (patterns_in (width_of t) j) (cut-words t i) (cut-words t j)
+
+pub cut-larger-xor : (t : Elem) (i j k l : Interval) → IsWithin i k → IsWithin j l → IsWithin (cut_row xor_row t i j) (cut_row xor_row t k l)
+cut-larger-xor t i j k l h m =
+    larger-xor (patterns_in (width_of t) i) (patterns_in (width_of t) j) (meet-ordered i (bits_range t)) (meet-ordered j (bits_range t)) (cut-words t i) (cut-words t j)
+    (patterns_in (width_of t) k) (patterns_in (width_of t) l) (meet-within i k (bits_range t) h) (meet-within j l (bits_range t) m)
+
+pub cut-least-xor : (t : Elem) (i j : Interval) → width_of t ≡ 1 → IsLeastOfAll xor_of (patterns_in (width_of t) i) (patterns_in (width_of t) j) (cut_row xor_row t i j)
+cut-least-xor t i j one =
+    least-bool xor_of xor_row empty-xor least-xor (patterns_in (width_of t) i) (patterns_in (width_of t) j) (meet-ordered i (bits_range t)) (meet-ordered j (bits_range t))
+    (cut-truths t i one) (cut-truths t j one)
 
 held-not : (t : Elem) (i : Interval) (x : ℤ) → Holds i x → Holds (not_row t i) (not_of t x)
 held-not t Empty x h = absurd h
@@ -602,9 +617,11 @@ larger-not t (Span a b) (Span c d) h = flipped (all_ones t) a b c d h.0 h.1
     flipped : (m a b c d : ℤ) → c ≤ℤ a → b ≤ℤ d → ((m -ℤ d) ≤ℤ (m -ℤ b)) × ((m -ℤ a) ≤ℤ (m -ℤ c))
     flipped m a b c d h k = (omega (arith, ints), omega (arith, ints))
 
-pub laws-not : (t : Elem) (i out : Interval) → out ≡ not_row t i → MeetsNotLaws t i out
-laws-not t i out e =
-    subst (λ (out : Interval). MeetsNotLaws t i out) (sym e) (record { held = held-not t i; larger = larger-not t i })
+pub cut-held-not : (t : Elem) (i : Interval) (x : ℤ) → Holds (patterns_in (width_of t) i) x → Holds (cut_not_row t i) (not_of t x)
+cut-held-not t i = held-not t (patterns_in (width_of t) i)
+
+pub cut-larger-not : (t : Elem) (i k : Interval) → IsWithin i k → IsWithin (cut_not_row t i) (cut_not_row t k)
+cut-larger-not t i k h = larger-not t (patterns_in (width_of t) i) (patterns_in (width_of t) k) (meet-within i k (bits_range t) h)
 
 -- ---- rows of intervals that are given by equations
 

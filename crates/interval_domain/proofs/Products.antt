@@ -1,13 +1,11 @@
 -- Products of numbers between others, and the laws of `*`.
-use Rattle.std.proofs.Common.{◌≡◌, inl, inr, ℕ, suc, ◌*◌, ◌≤◌, ℤ, pos, negsuc, ◌≤ℤ◌, ◌*ℤ◌, arith, subst, sym}
+use Rattle.std.proofs.Common.{◌≡◌, inl, inr, ℕ, suc, ◌*◌, ◌≤◌, ℤ, pos, negsuc, ◌≤ℤ◌, ◌*ℤ◌, arith}
 use Rattle.std.proofs.Math.Nat.{mul-le-mul_left}
 use Rattle.std.proofs.Math.IntN.{*ℤ_comm}
 use Rattle.std.proofs.lemmas.Int.{ints}
-use Rattle.iec_tables.specs.declared.elem.Elem.{Elem}
 use Rattle.interval_domain.specs.Interval.{Interval, Empty, Span, IsOrdered}
-use Rattle.interval_domain.specs.Operators.{kept, typed, HoldsResults, IsLeast, GrowsWith, MeetsLaws}
+use Rattle.interval_domain.specs.Operators.{kept, HoldsResults, IsLeast, GrowsWith}
 use Rattle.interval_domain.specs.Arithmetic.{product_of, hull_of, mul_raw}
-use Rattle.interval_domain.proofs.Laws.{laws-at}
 use Rattle.interval_domain.proofs.Between.{IsBetween, between-kept, between-held, hull_of-within, holds-within, ordered-low, ordered-high}
 
 scaled : (n c d : ℕ) → c ≤ d → n * c ≤ n * d
@@ -51,15 +49,9 @@ least-mul (Span a b) (Span c d) p q k all =
     (all b c (ordered-high a b p) (ordered-low c d q)) (all b d (ordered-high a b p) (ordered-high c d q))
 
 -- what holds the results of larger operands holds those of the operands
-larger-mul : (i j : Interval) → IsOrdered i → IsOrdered j → GrowsWith mul_raw i j (mul_raw i j)
+pub larger-mul : (i j : Interval) → IsOrdered i → IsOrdered j → GrowsWith mul_raw i j (mul_raw i j)
 larger-mul i j p q k l h m =
     least-mul i j p q (mul_raw k l) (λ x y s t. held-mul k l x y (holds-within i k x h s) (holds-within j l y m t))
-
-pub laws-mul : (t : Elem) (i j raw out : Interval) → IsOrdered i × IsOrdered j → raw ≡ mul_raw i j → out ≡ typed t (mul_raw i j)
-    → MeetsLaws product_of mul_raw t i j raw out
-laws-mul t i j raw out o e f =
-    laws-at product_of mul_raw t i j raw out (held-mul i j) (larger-mul i j o.0 o.1)
-    (subst (λ (r : Interval). IsLeast product_of i j r) (sym e) (least-mul i j o.0 o.1)) e f
 
 pub mul-at : (i j : Interval) (a b c d : ℤ) → i ≡ Span a b → j ≡ Span c d
     → mul_raw i j ≡ hull_of (kept (a *ℤ c)) (kept (a *ℤ d)) (kept (b *ℤ c)) (kept (b *ℤ d))

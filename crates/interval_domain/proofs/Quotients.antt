@@ -4,12 +4,10 @@ use Rattle.std.specs.Int.{int_max, int_min}
 use Rattle.std.proofs.Math.Nat.{mul-le-mul_left, div-mul-le_self}
 use Rattle.std.proofs.lemmas.Nat.{le-div}
 use Rattle.std.proofs.lemmas.Int.{ints, clamps, by_lt_z}
-use Rattle.iec_tables.specs.declared.elem.Elem.{Elem}
 use Rattle.interval_domain.specs.Interval.{Interval, Empty, Span, Holds, IsWithin, IsOrdered, span}
-use Rattle.interval_domain.specs.Operators.{kept, range_of, typed, GrowsWith}
-use Rattle.interval_domain.specs.Arithmetic.{quotient_of, hull_of, quotients, below_zero, above_zero, div_raw, IsDivisor, HoldsQuotients, MeetsDivisionLaws}
+use Rattle.interval_domain.specs.Operators.{kept, GrowsWith}
+use Rattle.interval_domain.specs.Arithmetic.{quotient_of, hull_of, quotients, below_zero, above_zero, div_raw, IsDivisor, HoldsQuotients}
 use Rattle.interval_domain.specs.Stored.{span-ordered, span-reversed}
-use Rattle.interval_domain.proofs.Laws.{meet-holds, meet-within, kept-typed}
 use Rattle.interval_domain.proofs.Between.{IsBetween, between-kept, between-held, hull_of-within, hull-within, hull-left, hull-right, holds-within, ordered-low, ordered-high}
 
 -- ---- natural numbers
@@ -140,26 +138,9 @@ least-div (Span a b) (Span c d) p k all =
     (part-within a b (int_max c (pos 1)) d k p
     (λ x y h l. all x y h (omega (arith, ints, clamps, l.0), l.1) (not-zero (int_max c (pos 1)) d y (inr (omega (arith, ints, clamps))) l.0 l.1)))
 
-larger-div : (i j : Interval) → IsOrdered i → GrowsWith div_raw i j (div_raw i j)
+pub larger-div : (i j : Interval) → IsOrdered i → GrowsWith div_raw i j (div_raw i j)
 larger-div i j p k l h m =
     least-div i j p (div_raw k l) (λ x y s t n. held-div k l x y (holds-within i k x h s) (holds-within j l y m t) n)
-
-laws-of : (t : Elem) (i j : Interval) → IsOrdered i → MeetsDivisionLaws t i j (div_raw i j) (typed t (div_raw i j))
-laws-of t i j o = record {
-  held = held-div i j;
-  least = least-div i j o;
-  held_typed = λ x y h k n r.
-      meet-holds (div_raw i j) (range_of t) (quotient_of x y)
-      (subst (λ (z : ℤ). Holds (div_raw i j) z) (kept-typed t (quotient_of x y) r) (held-div i j x y h k n)) r;
-  larger = larger-div i j o;
-  larger_typed = λ k l h m. meet-within (div_raw i j) (div_raw k l) (range_of t) (larger-div i j o k l h m);
-}
-
-pub laws-div : (t : Elem) (i j raw out : Interval) → IsOrdered i → raw ≡ div_raw i j → out ≡ typed t (div_raw i j)
-    → MeetsDivisionLaws t i j raw out
-laws-div t i j raw out o e f =
-    subst (λ (raw : Interval). MeetsDivisionLaws t i j raw out) (sym e)
-    (subst (λ (out : Interval). MeetsDivisionLaws t i j (div_raw i j) out) (sym f) (laws-of t i j o))
 
 pub quotients-at : (i j : Interval) (a b c d : ℤ) → i ≡ Span a b → j ≡ Span c d
     → quotients i j ≡ hull_of (kept (int_div a c)) (kept (int_div a d)) (kept (int_div b c)) (kept (int_div b d))

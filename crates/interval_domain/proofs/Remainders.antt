@@ -6,7 +6,7 @@ use Rattle.std.proofs.lemmas.Bool.Decides.{nat_tests}
 use Rattle.std.proofs.lemmas.Int.{ints, clamps, by_lt_z, quot-rem}
 use Rattle.interval_domain.specs.Interval.{Interval, Empty, Span, Holds, IsWithin, IsOrdered, span}
 use Rattle.interval_domain.specs.Operators.{GrowsWith}
-use Rattle.interval_domain.specs.Arithmetic.{remainder_of, remainders, least_remainder, greatest_remainder, modulo_row, IsDivisor, MeetsRemainderLaws}
+use Rattle.interval_domain.specs.Arithmetic.{remainder_of, remainders, least_remainder, greatest_remainder, modulo_row, IsDivisor}
 use Rattle.interval_domain.proofs.Laws.{span-holds, span-within}
 
 lt-true : (a b : ℤ) → a <ℤ b → int_lt a b ≡ true
@@ -96,7 +96,7 @@ not-none m h = grind (arith, nat_tests)
 pub remainders-of : (a b : ℤ) (m : ℕ) → 0 < m → remainders a b m ≡ span (least_remainder a m) (greatest_remainder b m)
 remainders-of a b m h = rw (not-none m h) refl
 
-held-modulo : (i j : Interval) (x y : ℤ) → Holds i x → Holds j y → IsDivisor y → Holds (modulo_row i j) (remainder_of x y)
+pub held-modulo : (i j : Interval) (x y : ℤ) → Holds i x → Holds j y → IsDivisor y → Holds (modulo_row i j) (remainder_of x y)
 held-modulo Empty j x y h k n = absurd h
 held-modulo (Span a b) Empty x y h k n = absurd k
 held-modulo (Span a b) (Span c d) x y h k n =
@@ -138,7 +138,7 @@ remainders-within a b e f (suc m) (suc k) h l r =
     (span-within (least_remainder a (suc m)) (greatest_remainder b (suc m)) (least_remainder e (suc k)) (greatest_remainder f (suc k))
     (least-falls e a (suc k) (suc m) (omega arith) h l) (greatest-rises b f (suc k) (suc m) (omega arith) h r))
 
-larger-modulo : (i j : Interval) → IsOrdered j → GrowsWith modulo_row i j (modulo_row i j)
+pub larger-modulo : (i j : Interval) → IsOrdered j → GrowsWith modulo_row i j (modulo_row i j)
 larger-modulo Empty j o k l h m = tt
 larger-modulo (Span a b) Empty o k l h m = tt
 larger-modulo (Span a b) (Span c d) o Empty l h m = absurd h
@@ -147,8 +147,3 @@ larger-modulo (Span a b) (Span c d) o (Span e f) (Span g n) h m =
     let low : unsigned_abs c ≤ max (unsigned_abs g) (unsigned_abs n) = size-within g n c m.0 (omega (arith, ints)) in
     let high : unsigned_abs d ≤ max (unsigned_abs g) (unsigned_abs n) = size-within g n d (omega (arith, ints)) m.1 in
     remainders-within a b e f (max (unsigned_abs c) (unsigned_abs d)) (max (unsigned_abs g) (unsigned_abs n)) (omega arith) h.0 h.1
-
-pub laws-modulo : (i j out : Interval) → IsOrdered j → out ≡ modulo_row i j → MeetsRemainderLaws i j out
-laws-modulo i j out o e =
-    subst (λ (out : Interval). MeetsRemainderLaws i j out) (sym e)
-    (record { held = held-modulo i j; larger = larger-modulo i j o })

@@ -8,10 +8,10 @@ use Rattle.interval_domain.specs.Grid.{first_or, last_or, floor_in, ceiling_in, 
 
 -- ---- laws
 
-le_true : (a b : ℤ) → a ≤ℤ b → int_le a b ≡ true
+pub le_true : (a b : ℤ) → a ≤ℤ b → int_le a b ≡ true
 le_true a b h = grind (arith, ints)
 
-le_false : (a b : ℤ) → b <ℤ a → int_le a b ≡ false
+pub le_false : (a b : ℤ) → b <ℤ a → int_le a b ≡ false
 le_false a b h = grind (arith, ints)
 
 last-le : (d z : ℤ) (g : List ℤ) → d ≤ℤ z → last_or d (filter (λ n. int_le n z) g) ≤ℤ z

@@ -2,32 +2,17 @@
 use Rattle.std.proofs.Common.{◌≡◌, ℤ, pos, negsuc, ◌≤ℤ◌, ◌-ℤ◌, neg_ℤ, ◌-◌, ◌^◌, arith, subst, sym, ◌∙◌}
 use Rattle.std.specs.Int.{int_max}
 use Rattle.std.proofs.lemmas.Int.{ints, clamps, by_lt_z}
-use Rattle.iec_tables.specs.declared.elem.Elem.{Elem}
 use Rattle.interval_domain.specs.Interval.{Interval, Empty, Span, Holds, IsWithin, IsOrdered, span}
-use Rattle.interval_domain.specs.Operators.{kept, range_of, typed}
-use Rattle.interval_domain.specs.Arithmetic.{negation_of, size_of, neg_raw, abs_raw, HoldsImages, MeetsUnaryLaws}
+use Rattle.interval_domain.specs.Operators.{kept}
+use Rattle.interval_domain.specs.Arithmetic.{negation_of, size_of, neg_raw, abs_raw, HoldsImages}
 use Rattle.interval_domain.specs.Stored.{span-ordered}
-use Rattle.interval_domain.proofs.Bounds.{kept-le}
-use Rattle.interval_domain.proofs.Laws.{meet-holds, meet-within, kept-typed}
+use Rattle.interval_domain.proofs.Bounds.{kept-le, both-ends}
 use Rattle.interval_domain.proofs.Between.{holds-within, ordered-low, ordered-high}
 
--- all laws follow where the row holds each result, and no smaller interval does
-laws-of : (op : ℤ → ℤ) (row : Interval → Interval) (t : Elem) (i : Interval)
-    → ((k : Interval) → HoldsImages op k (row k)) → ((j : Interval) → HoldsImages op i j → IsWithin (row i) j)
-    → MeetsUnaryLaws op row t i (row i) (typed t (row i))
-laws-of op row t i held least = record {
-  held = held i;
-  least = least;
-  held_typed = λ x h r. meet-holds (row i) (range_of t) (op x) (subst (λ (z : ℤ). Holds (row i) z) (kept-typed t (op x) r) (held i x h)) r;
-  larger = λ k h. least (row k) (λ x s. held k x (holds-within i k x h s));
-  larger_typed = λ k h. meet-within (row i) (row k) (range_of t) (least (row k) (λ x s. held k x (holds-within i k x h s)));
-}
-
-laws-at : (op : ℤ → ℤ) (row : Interval → Interval) (t : Elem) (i raw out : Interval)
-    → MeetsUnaryLaws op row t i (row i) (typed t (row i)) → raw ≡ row i → out ≡ typed t (row i) → MeetsUnaryLaws op row t i raw out
-laws-at op row t i raw out all e f =
-    subst (λ (raw : Interval). MeetsUnaryLaws op row t i raw out) (sym e)
-    (subst (λ (out : Interval). MeetsUnaryLaws op row t i (row i) out) (sym f) all)
+-- the row of a larger operand holds all that the operand's has to hold
+larger-of : (op : ℤ → ℤ) (row : Interval → Interval) (i : Interval) → ((k : Interval) → HoldsImages op k (row k))
+    → ((j : Interval) → HoldsImages op i j → IsWithin (row i) j) → (k : Interval) → IsWithin i k → IsWithin (row i) (row k)
+larger-of op row i held least k h = least (row k) (λ x s. held k x (holds-within i k x h s))
 
 -- ---- negation
 
@@ -37,24 +22,18 @@ neg-spans a b h =
     let high : pos 0 -ℤ a ≡ neg_ℤ a = omega (arith, ints) in
     rw (low, high) (span-ordered (kept (neg_ℤ b)) (kept (neg_ℤ a)) (kept-le (neg_ℤ b) (neg_ℤ a) (omega (arith, ints))))
 
-held-neg : (i : Interval) → HoldsImages negation_of i (neg_raw i)
+pub held-neg : (i : Interval) → HoldsImages negation_of i (neg_raw i)
 held-neg Empty x h = absurd h
 held-neg (Span a b) x h =
     (kept-le (neg_ℤ b) (neg_ℤ x) (omega (arith, ints)), kept-le (neg_ℤ x) (neg_ℤ a) (omega (arith, ints)))
 
-both-ends : (l h : ℤ) (j : Interval) → Holds j l → Holds j h → IsWithin (Span l h) j
-both-ends l h Empty p q = absurd p
-both-ends l h (Span a b) p q = (p.0, q.1)
-
-least-neg : (i : Interval) → IsOrdered i → (j : Interval) → HoldsImages negation_of i j → IsWithin (neg_raw i) j
+pub least-neg : (i : Interval) → IsOrdered i → (j : Interval) → HoldsImages negation_of i j → IsWithin (neg_raw i) j
 least-neg Empty o j all = tt
 least-neg (Span a b) o j all =
     both-ends (kept (neg_ℤ b)) (kept (neg_ℤ a)) j (all b (ordered-high a b o)) (all a (ordered-low a b o))
 
-pub laws-neg : (t : Elem) (i raw out : Interval) → IsOrdered i → raw ≡ neg_raw i → out ≡ typed t (neg_raw i)
-    → MeetsUnaryLaws negation_of neg_raw t i raw out
-laws-neg t i raw out o e f =
-    laws-at negation_of neg_raw t i raw out (laws-of negation_of neg_raw t i held-neg (least-neg i o)) e f
+pub larger-neg : (i : Interval) → IsOrdered i → (k : Interval) → IsWithin i k → IsWithin (neg_raw i) (neg_raw k)
+larger-neg i o = larger-of negation_of neg_raw i held-neg (least-neg i o)
 
 -- ---- absolute value
 
@@ -71,7 +50,7 @@ size-is (negsuc n) = omega (arith, ints, clamps)
 held-size : (a b x s : ℤ) → s ≡ int_max x (neg_ℤ x) → a ≤ℤ x → x ≤ℤ b → (abs_low a b ≤ℤ s) × (s ≤ℤ abs_high a b)
 held-size a b x s e h k = (omega (arith, ints, clamps), omega (arith, ints, clamps))
 
-held-abs : (i : Interval) → HoldsImages size_of i (abs_raw i)
+pub held-abs : (i : Interval) → HoldsImages size_of i (abs_raw i)
 held-abs Empty x h = absurd h
 held-abs (Span a b) x h =
     let both = held-size a b x (size_of x) (size-is x) h.0 h.1 in
@@ -91,7 +70,7 @@ high-size a b o =
     (λ below. (a, (omega (arith, ints), o), (omega (arith, ints, clamps)) ∙ sym (size-is a)))
     (λ above. (b, (o, omega (arith, ints)), (omega (arith, ints, clamps)) ∙ sym (size-is b)))
 
-least-abs : (i : Interval) → IsOrdered i → (j : Interval) → HoldsImages size_of i j → IsWithin (abs_raw i) j
+pub least-abs : (i : Interval) → IsOrdered i → (j : Interval) → HoldsImages size_of i j → IsWithin (abs_raw i) j
 least-abs Empty o j all = tt
 least-abs (Span a b) o j all =
     let low = low-size a b o in
@@ -100,9 +79,8 @@ least-abs (Span a b) o j all =
     (subst (λ (z : ℤ). Holds j (kept z)) (sym low.2) (all low.0 low.1))
     (subst (λ (z : ℤ). Holds j (kept z)) (sym high.2) (all high.0 high.1))
 
-pub laws-abs : (t : Elem) (i raw out : Interval) → IsOrdered i → raw ≡ abs_raw i → out ≡ typed t (abs_raw i)
-    → MeetsUnaryLaws size_of abs_raw t i raw out
-laws-abs t i raw out o e f = laws-at size_of abs_raw t i raw out (laws-of size_of abs_raw t i held-abs (least-abs i o)) e f
+pub larger-abs : (i : Interval) → IsOrdered i → (k : Interval) → IsWithin i k → IsWithin (abs_raw i) (abs_raw k)
+larger-abs i o = larger-of size_of abs_raw i held-abs (least-abs i o)
 
 pub abs-spans : (a b : ℤ) → a ≤ℤ b → span (kept (abs_low a b)) (kept (abs_high a b)) ≡ abs_raw (Span a b)
 abs-spans a b o =

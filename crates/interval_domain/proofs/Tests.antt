@@ -11,6 +11,7 @@ use Rattle.interval_domain.specs.Interval.{Interval, Empty, Span, Holds, IsWithi
 use Rattle.interval_domain.specs.Comparison.{test_of, opposite, Occurs, bounds_allow, may_hold, cut_bounds, cut_row, without, MeetsCutLaws}
 use Rattle.interval_domain.proofs.Laws.{span-holds, span-within}
 use Rattle.interval_domain.proofs.Between.{holds-within, ordered-low, ordered-high, span-in}
+use Rattle.interval_domain.proofs.Bounds.{through}
 
 -- ---- tests
 
@@ -257,9 +258,6 @@ without-larger : (a b e f number : ℤ) → e ≤ℤ a → b ≤ℤ f → IsWith
 without-larger a b e f number h k =
     span-within (if int_eq a number then a +ℤ pos 1 else a) (if int_eq b number then b -ℤ pos 1 else b)
     (if int_eq e number then e +ℤ pos 1 else e) (if int_eq f number then f -ℤ pos 1 else f) (low-larger e a number h) (high-larger b f number k)
-
-through : (a b c : ℤ) → a ≤ℤ b → b ≤ℤ c → a ≤ℤ c
-through a b c h k = omega (arith, ints)
 
 different-larger : (a b c d e f g n : ℤ) → c ≤ℤ d → e ≤ℤ a → b ≤ℤ f → g ≤ℤ c → d ≤ℤ n
     → IsWithin (cut_bounds NotEqual a b c d) (cut_bounds NotEqual e f g n)

@@ -5,12 +5,13 @@ use Rattle.std.proofs.lemmas.Nat.{mul-add-lt, mod_below, pow_pos, pow-add, shr_b
 use Rattle.std.proofs.lemmas.Int.{ints}
 use Rattle.interval_domain.specs.Interval.{Interval, Empty, Span, Holds, IsWithin, IsOrdered}
 use Rattle.interval_domain.specs.Selection.{HoldsAll}
-use Rattle.interval_domain.specs.Bits.{patterns}
-use Rattle.interval_domain.specs.Shifts.{moved, turns, turned, shl_of, shr_of, rol_of, ror_of, shl_row, shr_row, rol_row, ror_row, moved_row, MeetsShiftLaws}
-use Rattle.interval_domain.proofs.Laws.{span-holds, span-within}
-use Rattle.interval_domain.proofs.Between.{holds-within}
+use Rattle.interval_domain.specs.Bits.{patterns, patterns_in}
+use Rattle.interval_domain.specs.Shifts.{moved, turns, turned, shl_of, shr_of, rol_of, ror_of, shl_row, shr_row, rol_row, ror_row, moved_row, cut_row}
+use Rattle.interval_domain.proofs.Laws.{span-holds, span-within, meet-within}
+use Rattle.interval_domain.proofs.Between.{holds-within, meet-right, meet-ordered}
 use Rattle.interval_domain.proofs.Quotients.{div-up, div-down}
 use Rattle.interval_domain.proofs.Patterns.{exact_or-held, exact_or-larger, size-up}
+use Rattle.interval_domain.proofs.Bounds.{through}
 
 -- ---- patterns
 
@@ -75,9 +76,6 @@ moved-held op w keeps (Span a b) (Span c d) p x n h k =
 same-within : (z : ℤ) → z ≤ℤ z
 same-within z = omega (arith, ints)
 
-through : (a b c : ℤ) → a ≤ℤ b → b ≤ℤ c → a ≤ℤ c
-through a b c h k = omega (arith, ints)
-
 moved-larger : (op : ℕ → ℤ → ℤ → ℤ) (w : ℕ) → KeepsPatterns op w → (i j : Interval) → IsOrdered i → IsOrdered j → IsWithin i (patterns w)
     → (k l : Interval) → IsWithin i k → IsWithin j l → IsWithin (moved_row op w i j) (moved_row op w k l)
 moved-larger op w keeps Empty j o q p k l h m = tt
@@ -88,23 +86,32 @@ moved-larger op w keeps (Span a b) (Span c d) o q p (Span e f) (Span g n) h m =
     exact_or-larger (op w) a b c d e f g n (patterns w) (patterns w) o q h.0 h.1 m.0 m.1
     (keeps a c (p.0, through a b (pos (2 ^ w - 1)) o p.1)) (same-within (pos 0), same-within (pos (2 ^ w - 1)))
 
-laws-of : (op : ℕ → ℤ → ℤ → ℤ) (w v : ℕ) (i j out : Interval) → KeepsPatterns op w → IsOrdered i × IsOrdered j → IsWithin i (patterns w)
-    → v ≡ w → out ≡ moved_row op v i j → MeetsShiftLaws op (moved_row op) w i j out
-laws-of op w v i j out keeps o p f e =
-    subst (λ (out : Interval). MeetsShiftLaws op (moved_row op) w i j out) (sym (e ∙ ap (λ w. moved_row op w i j) f))
-    (record { held = moved-held op w keeps i j p; larger = λ k l q h m. moved-larger op w keeps i j o.0 o.1 p k l h m })
+-- of an operand that is cut to patterns
+cut-held : (op : ℕ → ℤ → ℤ → ℤ) (w : ℕ) → KeepsPatterns op w → (i j : Interval) → HoldsAll (op w) (patterns_in w i) j (cut_row (moved_row op) w i j)
+cut-held op w keeps i j = moved-held op w keeps (patterns_in w i) j (meet-right i (patterns w))
 
-pub laws-shl : (w v : ℕ) (i j out : Interval) → IsOrdered i × IsOrdered j → IsWithin i (patterns w) → v ≡ w → out ≡ shl_row v i j
-    → MeetsShiftLaws shl_of shl_row w i j out
-laws-shl w v i j out o p f e = laws-of shl_of w v i j out (keeps-shl w) o p f e
+cut-larger : (op : ℕ → ℤ → ℤ → ℤ) (w : ℕ) → KeepsPatterns op w → (i j : Interval) → IsOrdered j → (k l : Interval) → IsWithin i k → IsWithin j l
+    → IsWithin (cut_row (moved_row op) w i j) (cut_row (moved_row op) w k l)
+cut-larger op w keeps i j o k l h m =
+    moved-larger op w keeps (patterns_in w i) j (meet-ordered i (patterns w)) o (meet-right i (patterns w)) (patterns_in w k) l (meet-within i k (patterns w) h) m
 
-pub laws-rol : (w v : ℕ) (i j out : Interval) → 0 < v → IsOrdered i × IsOrdered j → IsWithin i (patterns w) → v ≡ w → out ≡ rol_row v i j
-    → MeetsShiftLaws rol_of rol_row w i j out
-laws-rol w v i j out s o p f e = laws-of rol_of w v i j out (keeps-rol w (subst (λ (n : ℕ). 0 < n) f s)) o p f e
+pub cut-held-shl : (w : ℕ) → (i j : Interval) → HoldsAll (shl_of w) (patterns_in w i) j (cut_row shl_row w i j)
+cut-held-shl w = cut-held shl_of w (keeps-shl w)
 
-pub laws-ror : (w v : ℕ) (i j out : Interval) → 0 < v → IsOrdered i × IsOrdered j → IsWithin i (patterns w) → v ≡ w → out ≡ ror_row v i j
-    → MeetsShiftLaws ror_of ror_row w i j out
-laws-ror w v i j out s o p f e = laws-of ror_of w v i j out (keeps-ror w (subst (λ (n : ℕ). 0 < n) f s)) o p f e
+pub cut-larger-shl : (w : ℕ) → (i j : Interval) → IsOrdered j → (k l : Interval) → IsWithin i k → IsWithin j l → IsWithin (cut_row shl_row w i j) (cut_row shl_row w k l)
+cut-larger-shl w = cut-larger shl_of w (keeps-shl w)
+
+pub cut-held-rol : (w : ℕ) → 0 < w → (i j : Interval) → HoldsAll (rol_of w) (patterns_in w i) j (cut_row rol_row w i j)
+cut-held-rol w p = cut-held rol_of w (keeps-rol w p)
+
+pub cut-larger-rol : (w : ℕ) → 0 < w → (i j : Interval) → IsOrdered j → (k l : Interval) → IsWithin i k → IsWithin j l → IsWithin (cut_row rol_row w i j) (cut_row rol_row w k l)
+cut-larger-rol w p = cut-larger rol_of w (keeps-rol w p)
+
+pub cut-held-ror : (w : ℕ) → 0 < w → (i j : Interval) → HoldsAll (ror_of w) (patterns_in w i) j (cut_row ror_row w i j)
+cut-held-ror w p = cut-held ror_of w (keeps-ror w p)
+
+pub cut-larger-ror : (w : ℕ) → 0 < w → (i j : Interval) → IsOrdered j → (k l : Interval) → IsWithin i k → IsWithin j l → IsWithin (cut_row ror_row w i j) (cut_row ror_row w k l)
+cut-larger-ror w p = cut-larger ror_of w (keeps-ror w p)
 
 -- ---- SHR
 
@@ -147,8 +154,9 @@ larger-shr w (Span a b) (Span c d) o p (Span e f) (Span g n) q h m =
     span-within (shr_of w a d) (shr_of w b c) (shr_of w e n) (shr_of w f g)
     (shr-up w e a n d q.0 h.0 m.1) (shr-up w b f c g (through (pos 0) a b p.0 o) h.1 m.0)
 
-pub laws-shr : (w v : ℕ) (i j out : Interval) → IsOrdered i → IsWithin i (patterns w) → v ≡ w → out ≡ shr_row v i j
-    → MeetsShiftLaws shr_of shr_row w i j out
-laws-shr w v i j out o p f e =
-    subst (λ (out : Interval). MeetsShiftLaws shr_of shr_row w i j out) (sym (e ∙ ap (λ w. shr_row w i j) f))
-    (record { held = held-shr w i j p; larger = larger-shr w i j o p })
+pub cut-held-shr : (w : ℕ) (i j : Interval) → HoldsAll (shr_of w) (patterns_in w i) j (cut_row shr_row w i j)
+cut-held-shr w i j = held-shr w (patterns_in w i) j (meet-right i (patterns w))
+
+pub cut-larger-shr : (w : ℕ) (i j k l : Interval) → IsWithin i k → IsWithin j l → IsWithin (cut_row shr_row w i j) (cut_row shr_row w k l)
+cut-larger-shr w i j k l h m =
+    larger-shr w (patterns_in w i) j (meet-ordered i (patterns w)) (meet-right i (patterns w)) (patterns_in w k) l (meet-right k (patterns w)) (meet-within i k (patterns w) h) m

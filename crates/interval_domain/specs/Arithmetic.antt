@@ -3,9 +3,8 @@
 -- towards 0. The code computes in 128 bits; here numbers have no limit.
 use Rattle.std.specs.Prelude.{◌≡◌, ℕ, max, nat_eq, if◌then◌else◌, ℤ, pos, negsuc, ◌-ℤ◌, ◌*ℤ◌, neg_ℤ, int_lt, unsigned_abs, int_div}
 use Rattle.std.specs.Int.{int_max, int_min}
-use Rattle.iec_tables.specs.declared.elem.Elem.{Elem}
-use Rattle.interval_domain.specs.Interval.{Interval, Empty, Span, Holds, IsWithin, span, hull}
-use Rattle.interval_domain.specs.Operators.{kept, range_of, typed, GrowsWith}
+use Rattle.interval_domain.specs.Interval.{Interval, Empty, Span, Holds, span, hull}
+use Rattle.interval_domain.specs.Operators.{kept}
 
 -- ---- on numbers
 
@@ -93,32 +92,12 @@ modulo_row Empty j = Empty
 modulo_row (Span a b) Empty = Empty
 modulo_row (Span a b) (Span c d) = remainders a b (max (unsigned_abs c) (unsigned_abs d))
 
--- ---- the laws of `/`: as those of the other operators, over divisors other than 0
+-- ---- parts of the laws
 
+-- of `/`: over divisors other than 0
 abbrev pub HoldsQuotients : Interval → Interval → Interval → Type 0
 HoldsQuotients a b raw = (x y : ℤ) → Holds a x → Holds b y → IsDivisor y → Holds raw (kept (quotient_of x y))
 
-pub record MeetsDivisionLaws (t : Elem) (a b raw out : Interval) : Type 0 where
-  pub held : HoldsQuotients a b raw
-  pub least : (j : Interval) → HoldsQuotients a b j → IsWithin raw j
-  pub held_typed : (x y : ℤ) → Holds a x → Holds b y → IsDivisor y → Holds (range_of t) (quotient_of x y) → Holds out (quotient_of x y)
-  pub larger : GrowsWith div_raw a b raw
-  pub larger_typed : GrowsWith (λ c d. typed t (div_raw c d)) a b out
-
--- ---- the laws of MOD
-
-pub record MeetsRemainderLaws (a b out : Interval) : Type 0 where
-  pub held : (x y : ℤ) → Holds a x → Holds b y → IsDivisor y → Holds out (remainder_of x y)
-  pub larger : GrowsWith modulo_row a b out
-
--- ---- the laws of an operator with one operand: `op` is the one on numbers, `row` gives the raw results
-
+-- of an operator with one operand
 abbrev pub HoldsImages : (ℤ → ℤ) → Interval → Interval → Type 0
 HoldsImages op a raw = (x : ℤ) → Holds a x → Holds raw (kept (op x))
-
-pub record MeetsUnaryLaws (op : ℤ → ℤ) (row : Interval → Interval) (t : Elem) (a raw out : Interval) : Type 0 where
-  pub held : HoldsImages op a raw
-  pub least : (j : Interval) → HoldsImages op a j → IsWithin raw j
-  pub held_typed : (x : ℤ) → Holds a x → Holds (range_of t) (op x) → Holds out (op x)
-  pub larger : (c : Interval) → IsWithin a c → IsWithin raw (row c)
-  pub larger_typed : (c : Interval) → IsWithin a c → IsWithin out (typed t (row c))

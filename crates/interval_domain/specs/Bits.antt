@@ -1,11 +1,12 @@
 -- The operators on bit strings, BOOL among them, which are read as unsigned numbers. Source: IEC 61131-3, bitwise Boolean
 -- functions; the intervals are this profile's choice. The code works on machine words; here patterns are numbers of any size.
+-- An operand is cut to the patterns of the type first: of a bit string's range nothing is lost by that.
 use Rattle.std.specs.Prelude.{◌≡◌, ℕ, zero, suc, ◌-◌, ◌/◌, ◌^◌, ◌&&◌, nat_eq, if◌then◌else◌, ℤ, pos, ◌-ℤ◌, ◌≤ℤ◌, bit_and, bit_or, bit_xor, unsigned_abs}
 use Rattle.std.specs.Int.{int_max, int_min}
 use Rattle.std.specs.Ordering.{int_eq}
 use Rattle.iec_tables.specs.declared.elem.Elem.{Elem}
 use Rattle.iec_tables.specs.Types.{width_of}
-use Rattle.interval_domain.specs.Interval.{Interval, Empty, Span, Holds, IsWithin, span}
+use Rattle.interval_domain.specs.Interval.{Interval, Empty, Span, IsWithin, span, meet}
 use Rattle.interval_domain.specs.Selection.{HoldsAll}
 
 -- the number whose bits are all 1
@@ -19,6 +20,10 @@ patterns width = Span (pos 0) (pos (2 ^ width - 1))
 -- the patterns of a type: the range of a bit string
 abbrev pub bits_range : Elem → Interval
 bits_range t = patterns (width_of t)
+
+-- what of an interval is patterns of that many bits
+abbrev pub patterns_in : ℕ → Interval → Interval
+patterns_in width i = meet i (patterns width)
 
 -- the patterns of the widest type
 abbrev pub words : Interval
@@ -83,19 +88,16 @@ mirrored greatest (Span a b) = Span (greatest -ℤ b) (greatest -ℤ a)
 abbrev pub not_row : Elem → Interval → Interval
 not_row t i = mirrored (all_ones t) i
 
--- ---- laws
+-- ---- the rows over what is patterns of the type in the operands
+
+abbrev pub cut_row : (Interval → Interval → Interval) → Elem → Interval → Interval → Interval
+cut_row row t i j = row (patterns_in (width_of t) i) (patterns_in (width_of t) j)
+
+abbrev pub cut_not_row : Elem → Interval → Interval
+cut_not_row t i = not_row t (patterns_in (width_of t) i)
+
+-- ---- a part of the laws
 
 -- No smaller interval holds all results. So on BOOL the rows above are the values that occur.
 abbrev pub IsLeastOfAll : (ℤ → ℤ → ℤ) → Interval → Interval → Interval → Type 0
 IsLeastOfAll op a b out = (j : Interval) → HoldsAll op a b j → IsWithin out j
-
--- of AND, OR and XOR
-pub record MeetsBitLaws (op : ℤ → ℤ → ℤ) (row : Interval → Interval → Interval) (t : Elem) (a b out : Interval) : Type 0 where
-  pub held : HoldsAll op a b out
-  pub larger : (c d : Interval) → IsWithin a c → IsWithin b d → IsWithin out (row c d)
-  pub occurring : width_of t ≡ 1 → IsLeastOfAll op a b out
-
--- of NOT
-pub record MeetsNotLaws (t : Elem) (a out : Interval) : Type 0 where
-  pub held : (x : ℤ) → Holds a x → Holds out (not_of t x)
-  pub larger : (c : Interval) → IsWithin a c → IsWithin out (not_row t c)

@@ -8,7 +8,7 @@ use Rattle.std.specs.declared.cmp.Ordering.{Ordering}
 use Rattle.iec_tables.specs.Types as types
 use Rattle.iec_tables.specs.declared.elem.Elem.{Elem}
 use Rattle.iec_tables.specs.declared.elem.Elem.TheVariants.{Sint, Int, Dint, Lint, Usint, Uint, Udint, Ulint, Bool as Truth, Byte, Word, Dword, Lword, Time}
-use Rattle.interval_domain.specs.Interval.{Interval, Empty, Span, IsWithin}
+use Rattle.interval_domain.specs.Interval.{Interval, Empty, Span, IsWithin, hull}
 use Rattle.interval_domain.specs.Operators.{kept, sum_of, difference_of}
 
 -- ---- rounding: each bound is moved outward to the grid, which is a rising list
@@ -33,6 +33,28 @@ ceiling_in grid z = first_or z (filter (λ n. int_le z n) grid)
 abbrev pub rounded : List ℤ → Interval → Interval
 rounded grid Empty = Empty
 rounded grid (Span a b) = Span (floor_in grid a) (ceiling_in grid b)
+
+-- it is empty, or both bounds are numbers of the grid
+abbrev pub IsOnGrid : List ℤ → Interval → Type 0
+IsOnGrid grid Empty = Unit {0}
+IsOnGrid grid (Span low high) = Contains grid low × Contains grid high
+
+-- the numbers of all types: from the least of LINT to the greatest of ULINT
+abbrev pub all_numbers : Interval
+all_numbers = Span (types.low_of Lint) (types.high_of Ulint)
+
+-- a list to round to: it rises, and both ends of the numbers of all types are in it
+pub record IsRounder (grid : List ℤ) : Type 0 where
+  pub rising : IsStrictlySortedBy int_cmp grid
+  pub outermost : IsOnGrid grid all_numbers
+
+-- no smaller interval on the grid holds what is rounded
+abbrev pub IsLeastOnGrid : List ℤ → Interval → Interval → Type 0
+IsLeastOnGrid grid i out = (j : Interval) → IsOnGrid grid j → IsWithin i j → IsWithin out j
+
+-- the rounding of a hull is the hull of the roundings
+abbrev pub GivesHulls : List ℤ → Interval → Interval → Type 0
+GivesHulls grid i out = (j : Interval) → rounded grid (hull i j) ≡ hull out (rounded grid j)
 
 -- a larger interval is rounded to no smaller one
 abbrev pub GrowsFrom : List ℤ → Interval → Interval → Type 0

@@ -3,6 +3,7 @@ pub mod Bits
 pub mod Comparison
 pub mod Grid
 pub mod Interval
+pub mod Laws
 pub mod Operators
 pub mod Selection
 pub mod Shifts

@@ -39,7 +39,7 @@ sub_raw (Span a b) (Span c d) = Span (kept (difference_of a d)) (kept (differenc
 abbrev pub typed : Elem → Interval → Interval
 typed t raw = meet raw (range_of t)
 
--- ---- the laws of an operator: `op` is the one on numbers, `a` and `b` are the operands
+-- ---- parts of the laws: `op` is the operator on numbers, `a` and `b` are the operands
 
 -- each whole-number result of numbers that the operands hold, kept, is in `raw`
 abbrev pub HoldsResults : (ℤ → ℤ → ℤ) → Interval → Interval → Interval → Type 0
@@ -49,21 +49,9 @@ HoldsResults op a b raw = (x y : ℤ) → Holds a x → Holds b y → Holds raw 
 abbrev pub IsLeast : (ℤ → ℤ → ℤ) → Interval → Interval → Interval → Type 0
 IsLeast op a b raw = (j : Interval) → HoldsResults op a b j → IsWithin raw j
 
--- each whole-number result that lies in the type is in `out`
-abbrev pub HoldsTyped : (ℤ → ℤ → ℤ) → Elem → Interval → Interval → Interval → Type 0
-HoldsTyped op t a b out = (x y : ℤ) → Holds a x → Holds b y → Holds (range_of t) (op x y) → Holds out (op x y)
-
 -- larger operands give no smaller interval
 abbrev pub GrowsWith : (Interval → Interval → Interval) → Interval → Interval → Interval → Type 0
 GrowsWith row a b out = (c d : Interval) → IsWithin a c → IsWithin b d → IsWithin out (row c d)
-
--- all of them, for an operator whose raw results are `row`
-pub record MeetsLaws (op : ℤ → ℤ → ℤ) (row : Interval → Interval → Interval) (t : Elem) (a b raw out : Interval) : Type 0 where
-  pub held : HoldsResults op a b raw
-  pub least : IsLeast op a b raw
-  pub held_typed : HoldsTyped op t a b out
-  pub larger : GrowsWith row a b raw
-  pub larger_typed : GrowsWith (λ c d. typed t (row c d)) a b out
 
 -- ---- alarms
 

@@ -3,9 +3,7 @@
 use Rattle.std.specs.Prelude.{Bool, not, ◌||◌, if◌then◌else◌, ℤ, pos}
 use Rattle.std.specs.Int.{int_max, int_min}
 use Rattle.std.specs.Ordering.{int_eq}
-use Rattle.iec_tables.specs.declared.elem.Elem.{Elem}
-use Rattle.interval_domain.specs.Interval.{Interval, Empty, Span, Holds, holds, IsWithin, is_within, is_empty, hull}
-use Rattle.interval_domain.specs.Operators.{range_of, typed}
+use Rattle.interval_domain.specs.Interval.{Interval, Empty, Span, Holds, holds, is_within, is_empty, hull}
 
 -- ---- on numbers
 
@@ -48,21 +46,7 @@ sel_row g in0 in1 =
     given (not (is_empty g || is_empty in0 || is_empty in1))
     (hull (given (holds g (pos 0)) in0) (given (not (is_within g (Span (pos 0) (pos 0)))) in1))
 
--- ---- the laws of MIN and MAX: each result is in `out`, and larger operands give no smaller one
+-- ---- a part of the laws: each result is held
 
 abbrev pub HoldsAll : (ℤ → ℤ → ℤ) → Interval → Interval → Interval → Type 0
 HoldsAll op a b out = (x y : ℤ) → Holds a x → Holds b y → Holds out (op x y)
-
-pub record MeetsPlainLaws (op : ℤ → ℤ → ℤ) (row : Interval → Interval → Interval) (a b out : Interval) : Type 0 where
-  pub held : HoldsAll op a b out
-  pub larger : (c d : Interval) → IsWithin a c → IsWithin b d → IsWithin out (row c d)
-
--- those of LIMIT and SEL, which have three operands
-pub record MeetsTernaryLaws (op : ℤ → ℤ → ℤ → ℤ) (row : Interval → Interval → Interval → Interval) (a b c out : Interval) : Type 0 where
-  pub held : (x y z : ℤ) → Holds a x → Holds b y → Holds c z → Holds out (op x y z)
-  pub larger : (d e f : Interval) → IsWithin a d → IsWithin b e → IsWithin c f → IsWithin out (row d e f)
-
--- those of a conversion to a type: each number that the type has is in `out`
-pub record MeetsConversionLaws (t : Elem) (a out : Interval) : Type 0 where
-  pub held : (x : ℤ) → Holds a x → Holds (range_of t) x → Holds out x
-  pub larger : (c : Interval) → IsWithin a c → IsWithin out (typed t c)

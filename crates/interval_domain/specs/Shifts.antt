@@ -1,10 +1,9 @@
 -- Shifts and rotations of bit strings, which are read as unsigned numbers of `width` bits. A negative count is 0. Source: IEC
 -- 61131-3, bit shift functions; the intervals are this profile's choice. The code works on machine words; here patterns are numbers
--- of any size.
+-- of any size. The first operand is cut to the patterns of the type first: of a bit string's range nothing is lost by that.
 use Rattle.std.specs.Prelude.{ℕ, min, ◌+◌, ◌-◌, ◌*◌, ◌/◌, ◌%◌, ◌^◌, ℤ, pos, negsuc, unsigned_abs}
-use Rattle.interval_domain.specs.Interval.{Interval, Empty, Span, IsWithin, span}
-use Rattle.interval_domain.specs.Selection.{HoldsAll}
-use Rattle.interval_domain.specs.Bits.{patterns, exact_or}
+use Rattle.interval_domain.specs.Interval.{Interval, Empty, Span, span}
+use Rattle.interval_domain.specs.Bits.{patterns, patterns_in, exact_or}
 
 -- ---- on numbers
 
@@ -58,8 +57,7 @@ rol_row width i j = moved_row rol_of width i j
 abbrev pub ror_row : (width : ℕ) → Interval → Interval → Interval
 ror_row width i j = moved_row ror_of width i j
 
--- ---- the laws, of patterns of that width
+-- ---- the rows over what is patterns of the type in the first operand
 
-pub record MeetsShiftLaws (op : ℕ → ℤ → ℤ → ℤ) (row : ℕ → Interval → Interval → Interval) (width : ℕ) (a n out : Interval) : Type 0 where
-  pub held : HoldsAll (op width) a n out
-  pub larger : (c d : Interval) → IsWithin c (patterns width) → IsWithin a c → IsWithin n d → IsWithin out (row width c d)
+abbrev pub cut_row : (ℕ → Interval → Interval → Interval) → (width : ℕ) → Interval → Interval → Interval
+cut_row row width i j = row width (patterns_in width i) j

@@ -3,6 +3,7 @@ ghost use Rattle.std.specs.Prelude.{◌≡◌, ◌≢◌, ◌<◌, ◌≤◌, �
 ghost use Rattle.interval_domain.specs.Interval as intervals;
 ghost use Rattle.interval_domain.specs.Operators as rows;
 ghost use Rattle.interval_domain.specs.Arithmetic as arithmetic;
+ghost use Rattle.interval_domain.specs.Laws as laws;
 
 use crate::interval::{Interval, join};
 use crate::operators::{Out, kept, kept_difference, plain, typed};
@@ -12,7 +13,12 @@ use iec_tables::elem::Elem;
 pub fn mul(t: Elem, a: Interval, b: Interval) -> Out
     ensures raw { result.raw ≡ arithmetic.mul_raw a b }
     ensures result { result.result ≡ rows.typed t (arithmetic.mul_raw a b) }
-    ensures laws { rows.MeetsLaws arithmetic.product_of arithmetic.mul_raw t a b result.raw result.result }
+    ensures sound { laws.IsSound (laws.of_two arithmetic.product_of a b) rows.kept (laws.fits t)
+        result.raw result.result }
+    ensures best { laws.IsBest (laws.of_two arithmetic.product_of a b) rows.kept result.raw }
+    ensures monotone { laws.IsMonotone
+        (laws.with_two arithmetic.mul_raw (λ c d. rows.typed t (arithmetic.mul_raw c d)) a b) result.raw
+        result.result }
 {
     typed(t, mul_bounds(a, b))
 }
@@ -21,7 +27,12 @@ pub fn mul(t: Elem, a: Interval, b: Interval) -> Out
 pub fn div(t: Elem, a: Interval, b: Interval) -> Out
     ensures raw { result.raw ≡ arithmetic.div_raw a b }
     ensures result { result.result ≡ rows.typed t (arithmetic.div_raw a b) }
-    ensures laws { arithmetic.MeetsDivisionLaws t a b result.raw result.result }
+    ensures sound { laws.IsSound (laws.of_division arithmetic.quotient_of a b) rows.kept (laws.fits t)
+        result.raw result.result }
+    ensures best { laws.IsBest (laws.of_division arithmetic.quotient_of a b) rows.kept result.raw }
+    ensures monotone { laws.IsMonotone
+        (laws.with_two arithmetic.div_raw (λ c d. rows.typed t (arithmetic.div_raw c d)) a b) result.raw
+        result.result }
 {
     typed(t, div_bounds(a, b))
 }
@@ -30,7 +41,10 @@ pub fn div(t: Elem, a: Interval, b: Interval) -> Out
 pub fn modulo(_t: Elem, a: Interval, b: Interval) -> Out
     ensures raw { result.raw ≡ arithmetic.modulo_row a b }
     ensures result { result.result ≡ arithmetic.modulo_row a b }
-    ensures laws { arithmetic.MeetsRemainderLaws a b result.result }
+    ensures sound { laws.IsSound (laws.of_division arithmetic.remainder_of a b) laws.same laws.any
+        result.raw result.result }
+    ensures monotone { laws.IsMonotone (laws.with_two arithmetic.modulo_row arithmetic.modulo_row a b)
+        result.raw result.result }
 {
     plain(modulo_bounds(a, b))
 }
@@ -39,7 +53,12 @@ pub fn modulo(_t: Elem, a: Interval, b: Interval) -> Out
 pub fn neg(t: Elem, a: Interval) -> Out
     ensures raw { result.raw ≡ arithmetic.neg_raw a }
     ensures result { result.result ≡ rows.typed t (arithmetic.neg_raw a) }
-    ensures laws { arithmetic.MeetsUnaryLaws arithmetic.negation_of arithmetic.neg_raw t a result.raw result.result }
+    ensures sound { laws.IsSound (laws.of_one arithmetic.negation_of a) rows.kept (laws.fits t)
+        result.raw result.result }
+    ensures best { laws.IsBest (laws.of_one arithmetic.negation_of a) rows.kept result.raw }
+    ensures monotone { laws.IsMonotone
+        (laws.with_one arithmetic.neg_raw (λ c. rows.typed t (arithmetic.neg_raw c)) a) result.raw
+        result.result }
 {
     typed(t, neg_bounds(a))
 }
@@ -48,7 +67,12 @@ pub fn neg(t: Elem, a: Interval) -> Out
 pub fn abs(t: Elem, a: Interval) -> Out
     ensures raw { result.raw ≡ arithmetic.abs_raw a }
     ensures result { result.result ≡ rows.typed t (arithmetic.abs_raw a) }
-    ensures laws { arithmetic.MeetsUnaryLaws arithmetic.size_of arithmetic.abs_raw t a result.raw result.result }
+    ensures sound { laws.IsSound (laws.of_one arithmetic.size_of a) rows.kept (laws.fits t) result.raw
+        result.result }
+    ensures best { laws.IsBest (laws.of_one arithmetic.size_of a) rows.kept result.raw }
+    ensures monotone { laws.IsMonotone
+        (laws.with_one arithmetic.abs_raw (λ c. rows.typed t (arithmetic.abs_raw c)) a) result.raw
+        result.result }
 {
     typed(t, abs_bounds(a))
 }

@@ -1,74 +1,86 @@
-// AND, OR, XOR and NOT of intervals of bit patterns, BOOL among them.
+// AND, OR, XOR and NOT of the bit patterns in intervals, BOOL among them.
 ghost use Rattle.std.specs.Prelude.{◌≡◌, pos, ◌≤ℤ◌, ◌-ℤ◌, ◌-◌, ◌^◌};
+ghost use Rattle.iec_tables.specs.Types.{width_of};
 ghost use Rattle.interval_domain.specs.Interval as intervals;
 ghost use Rattle.interval_domain.specs.Bits as rows;
+ghost use Rattle.interval_domain.specs.Laws as laws;
 
 use crate::interval::Interval;
 use crate::operators::{Out, plain};
+use crate::widths::{all_ones, patterns_in};
 use iec_tables::elem::Elem;
 
-/// The patterns with the bits that both have. The operands are patterns of the type: for a bit string, numbers in its range.
+/// The patterns with the bits that both have. Of each operand only what is patterns of the type counts: for a bit string, all that is
+/// in its range.
 pub fn and(t: Elem, a: Interval, b: Interval) -> Out
-    requires left { intervals.IsWithin a (rows.bits_range t) }
-    requires right { intervals.IsWithin b (rows.bits_range t) }
-    ensures raw { result.raw ≡ rows.and_row a b }
-    ensures result { result.result ≡ rows.and_row a b }
-    ensures laws { rows.MeetsBitLaws rows.and_of rows.and_row t a b result.result }
+    ensures raw { result.raw ≡ rows.and_row (rows.patterns_in (width_of t) a)
+        (rows.patterns_in (width_of t) b) }
+    ensures result { result.result ≡ rows.and_row (rows.patterns_in (width_of t) a)
+        (rows.patterns_in (width_of t) b) }
+    ensures sound { laws.IsSound
+        (laws.of_two rows.and_of (rows.patterns_in (width_of t) a) (rows.patterns_in (width_of t) b))
+        laws.same laws.any result.raw result.result }
+    ensures best { width_of t ≡ 1 → laws.IsBest
+        (laws.of_two rows.and_of (rows.patterns_in (width_of t) a) (rows.patterns_in (width_of t) b))
+        laws.same result.raw }
+    ensures monotone { laws.IsMonotone
+        (laws.with_two (rows.cut_row rows.and_row t) (rows.cut_row rows.and_row t) a b) result.raw
+        result.result }
 {
-    plain(and_bounds(a, b))
+    plain(and_bounds(patterns_in(t, a), patterns_in(t, b)))
 }
 
-/// The patterns with the bits that either has. The operands are patterns of the type: for a bit string, numbers in its range.
+/// The patterns with the bits that either has. Of each operand only what is patterns of the type counts: for a bit string, all that is
+/// in its range.
 pub fn or(t: Elem, a: Interval, b: Interval) -> Out
-    requires left { intervals.IsWithin a (rows.bits_range t) }
-    requires right { intervals.IsWithin b (rows.bits_range t) }
-    ensures raw { result.raw ≡ rows.or_row a b }
-    ensures result { result.result ≡ rows.or_row a b }
-    ensures laws { rows.MeetsBitLaws rows.or_of rows.or_row t a b result.result }
+    ensures raw { result.raw ≡ rows.or_row (rows.patterns_in (width_of t) a)
+        (rows.patterns_in (width_of t) b) }
+    ensures result { result.result ≡ rows.or_row (rows.patterns_in (width_of t) a)
+        (rows.patterns_in (width_of t) b) }
+    ensures sound { laws.IsSound
+        (laws.of_two rows.or_of (rows.patterns_in (width_of t) a) (rows.patterns_in (width_of t) b))
+        laws.same laws.any result.raw result.result }
+    ensures best { width_of t ≡ 1 → laws.IsBest
+        (laws.of_two rows.or_of (rows.patterns_in (width_of t) a) (rows.patterns_in (width_of t) b))
+        laws.same result.raw }
+    ensures monotone { laws.IsMonotone
+        (laws.with_two (rows.cut_row rows.or_row t) (rows.cut_row rows.or_row t) a b) result.raw
+        result.result }
 {
-    plain(or_bounds(a, b))
+    plain(or_bounds(patterns_in(t, a), patterns_in(t, b)))
 }
 
-/// The patterns with the bits that one of both has. The operands are patterns of the type: for a bit string, numbers in its
-/// range.
+/// The patterns with the bits that one of both has. Of each operand only what is patterns of the type counts: for a bit string, all that is
+/// in its range.
 pub fn xor(t: Elem, a: Interval, b: Interval) -> Out
-    requires left { intervals.IsWithin a (rows.bits_range t) }
-    requires right { intervals.IsWithin b (rows.bits_range t) }
-    ensures raw { result.raw ≡ rows.xor_row a b }
-    ensures result { result.result ≡ rows.xor_row a b }
-    ensures laws { rows.MeetsBitLaws rows.xor_of rows.xor_row t a b result.result }
+    ensures raw { result.raw ≡ rows.xor_row (rows.patterns_in (width_of t) a)
+        (rows.patterns_in (width_of t) b) }
+    ensures result { result.result ≡ rows.xor_row (rows.patterns_in (width_of t) a)
+        (rows.patterns_in (width_of t) b) }
+    ensures sound { laws.IsSound
+        (laws.of_two rows.xor_of (rows.patterns_in (width_of t) a) (rows.patterns_in (width_of t) b))
+        laws.same laws.any result.raw result.result }
+    ensures best { width_of t ≡ 1 → laws.IsBest
+        (laws.of_two rows.xor_of (rows.patterns_in (width_of t) a) (rows.patterns_in (width_of t) b))
+        laws.same result.raw }
+    ensures monotone { laws.IsMonotone
+        (laws.with_two (rows.cut_row rows.xor_row t) (rows.cut_row rows.xor_row t) a b) result.raw
+        result.result }
 {
-    plain(xor_bounds(a, b))
+    plain(xor_bounds(patterns_in(t, a), patterns_in(t, b)))
 }
 
-/// The patterns with each bit turned round. The operand is of patterns of the type: for a bit string, numbers in its range.
+/// The patterns with each bit turned round. Of the operand only what is patterns of the type counts: for a bit string, all that is in
+/// its range.
 pub fn not(t: Elem, a: Interval) -> Out
-    requires { intervals.IsWithin a (rows.bits_range t) }
-    ensures raw { result.raw ≡ rows.not_row t a }
-    ensures result { result.result ≡ rows.not_row t a }
-    ensures laws { rows.MeetsNotLaws t a result.result }
+    ensures raw { result.raw ≡ rows.not_row t (rows.patterns_in (width_of t) a) }
+    ensures result { result.result ≡ rows.not_row t (rows.patterns_in (width_of t) a) }
+    ensures sound { laws.IsSound (laws.of_one (rows.not_of t) (rows.patterns_in (width_of t) a))
+        laws.same laws.any result.raw result.result }
+    ensures monotone { laws.IsMonotone (laws.with_one (rows.cut_not_row t) (rows.cut_not_row t) a)
+        result.raw result.result }
 {
-    plain(not_bounds(all_ones(t), a))
-}
-
-/// The patterns of a type as numbers; for a bit string, its range.
-pub fn patterns_of(t: Elem) -> Interval
-    ensures { result ≡ rows.bits_range t }
-{
-    Interval::of(0, all_ones(t))
-}
-
-/// The number whose bits are all 1.
-pub fn all_ones(t: Elem) -> i128
-    ensures { result ≡ rows.all_ones t }
-{
-    match t {
-        Elem::Bool => 1,
-        Elem::Sint | Elem::Usint | Elem::Byte => u8::MAX as i128,
-        Elem::Int | Elem::Uint | Elem::Word => u16::MAX as i128,
-        Elem::Dint | Elem::Udint | Elem::Dword => u32::MAX as i128,
-        Elem::Lint | Elem::Ulint | Elem::Lword | Elem::Time => u64::MAX as i128,
-    }
+    plain(not_bounds(all_ones(t), patterns_in(t, a)))
 }
 
 fn and_bounds(a: Interval, b: Interval) -> Interval

@@ -34,7 +34,7 @@ const TYPES: [Elem; 14] = [
     Elem::Time,
 ];
 
-/// A rising list of numbers. To contracts it is that list.
+/// A rising list of numbers, the least and the greatest number of all types among them. To contracts it is that list.
 #[derive(Drop)]
 pub struct Grid {
     numbers: Vec<i128>,
@@ -42,14 +42,13 @@ pub struct Grid {
 
 impl Model for Grid {
     ghost use Rattle.std.specs.Prelude.{List, ℤ};
-    ghost use Rattle.std.specs.Ordering.{int_cmp};
-    ghost use Rattle.std.specs.List.Sorted.{IsStrictlySortedBy};
+    ghost use Rattle.interval_domain.specs.Grid.{IsRounder};
 
     ghost Value = { List ℤ };
 
     ghost view = { λ g. g.numbers.items };
 
-    ghost invariant = { λ g. IsStrictlySortedBy int_cmp g.numbers.items };
+    ghost invariant = { λ g. IsRounder g.numbers.items };
 }
 
 impl Grid {
@@ -62,12 +61,15 @@ impl Grid {
         Ok(Grid { numbers })
     }
 
-    /// Moves each bound outward to the nearest number of the grid. A bound beyond the whole grid stays, and so does the
-    /// empty interval.
+    /// Moves each bound outward to the nearest number of the grid. The empty interval stays, and so does a bound beyond the
+    /// numbers of all types.
     pub fn round(&self, i: Interval) -> Interval
         ensures value { result ≡ grids.rounded self.now i }
         ensures wider { intervals.IsWithin i result }
         ensures larger { grids.GrowsFrom self.now i result }
+        ensures on_grid { intervals.IsWithin i grids.all_numbers → grids.IsOnGrid self.now result }
+        ensures least { grids.IsLeastOnGrid self.now i result }
+        ensures hulls { grids.GivesHulls self.now i result }
     {
         match i.bounds() {
             None => Interval::empty(),

@@ -10,3 +10,4 @@ pub mod operators;
 pub mod relation;
 pub mod selection;
 pub mod shifts;
+mod widths;

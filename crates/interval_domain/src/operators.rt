@@ -1,6 +1,7 @@
 // Operators on intervals, and the alarms of their results.
 ghost use Rattle.std.specs.Prelude.{◌≡◌};
 ghost use Rattle.interval_domain.specs.Operators as rows;
+ghost use Rattle.interval_domain.specs.Laws as laws;
 
 use crate::interval::{Interval, meet};
 use iec_tables::elem::{Elem, high, low};
@@ -28,7 +29,11 @@ pub fn range_of(t: Elem) -> Interval
 pub fn add(t: Elem, a: Interval, b: Interval) -> Out
     ensures raw { result.raw ≡ rows.add_raw a b }
     ensures result { result.result ≡ rows.typed t (rows.add_raw a b) }
-    ensures laws { rows.MeetsLaws rows.sum_of rows.add_raw t a b result.raw result.result }
+    ensures sound { laws.IsSound (laws.of_two rows.sum_of a b) rows.kept (laws.fits t) result.raw
+        result.result }
+    ensures best { laws.IsBest (laws.of_two rows.sum_of a b) rows.kept result.raw }
+    ensures monotone { laws.IsMonotone
+        (laws.with_two rows.add_raw (λ c d. rows.typed t (rows.add_raw c d)) a b) result.raw result.result }
 {
     typed(t, add_bounds(a, b))
 }
@@ -37,7 +42,11 @@ pub fn add(t: Elem, a: Interval, b: Interval) -> Out
 pub fn sub(t: Elem, a: Interval, b: Interval) -> Out
     ensures raw { result.raw ≡ rows.sub_raw a b }
     ensures result { result.result ≡ rows.typed t (rows.sub_raw a b) }
-    ensures laws { rows.MeetsLaws rows.difference_of rows.sub_raw t a b result.raw result.result }
+    ensures sound { laws.IsSound (laws.of_two rows.difference_of a b) rows.kept (laws.fits t) result.raw
+        result.result }
+    ensures best { laws.IsBest (laws.of_two rows.difference_of a b) rows.kept result.raw }
+    ensures monotone { laws.IsMonotone
+        (laws.with_two rows.sub_raw (λ c d. rows.typed t (rows.sub_raw c d)) a b) result.raw result.result }
 {
     typed(t, sub_bounds(a, b))
 }

@@ -3,6 +3,7 @@ ghost use Rattle.std.specs.Prelude.{◌≡◌, ◌||◌};
 ghost use Rattle.interval_domain.specs.Interval.{is_empty};
 ghost use Rattle.interval_domain.specs.Operators as rows;
 ghost use Rattle.interval_domain.specs.Selection as selection;
+ghost use Rattle.interval_domain.specs.Laws as laws;
 
 use crate::interval::{Interval, join};
 use crate::operators::{Out, plain, typed};
@@ -12,7 +13,10 @@ use iec_tables::elem::Elem;
 pub fn min(_t: Elem, a: Interval, b: Interval) -> Out
     ensures raw { result.raw ≡ selection.min_row a b }
     ensures result { result.result ≡ selection.min_row a b }
-    ensures laws { selection.MeetsPlainLaws selection.least_of selection.min_row a b result.result }
+    ensures sound { laws.IsSound (laws.of_two selection.least_of a b) laws.same laws.any result.raw
+        result.result }
+    ensures monotone { laws.IsMonotone (laws.with_two selection.min_row selection.min_row a b)
+        result.raw result.result }
 {
     plain(min_bounds(a, b))
 }
@@ -21,7 +25,10 @@ pub fn min(_t: Elem, a: Interval, b: Interval) -> Out
 pub fn max(_t: Elem, a: Interval, b: Interval) -> Out
     ensures raw { result.raw ≡ selection.max_row a b }
     ensures result { result.result ≡ selection.max_row a b }
-    ensures laws { selection.MeetsPlainLaws selection.greatest_of selection.max_row a b result.result }
+    ensures sound { laws.IsSound (laws.of_two selection.greatest_of a b) laws.same laws.any result.raw
+        result.result }
+    ensures monotone { laws.IsMonotone (laws.with_two selection.max_row selection.max_row a b)
+        result.raw result.result }
 {
     plain(max_bounds(a, b))
 }
@@ -30,7 +37,10 @@ pub fn max(_t: Elem, a: Interval, b: Interval) -> Out
 pub fn limit(_t: Elem, mn: Interval, a: Interval, mx: Interval) -> Out
     ensures raw { result.raw ≡ selection.limit_row mn a mx }
     ensures result { result.result ≡ selection.limit_row mn a mx }
-    ensures laws { selection.MeetsTernaryLaws selection.limited selection.limit_row mn a mx result.result }
+    ensures sound { laws.IsSound (laws.of_three selection.limited mn a mx) laws.same laws.any result.raw
+        result.result }
+    ensures monotone { laws.IsMonotone (laws.with_three selection.limit_row selection.limit_row mn a mx)
+        result.raw result.result }
 {
     plain(min_bounds(max_bounds(a, mn), mx))
 }
@@ -40,7 +50,10 @@ pub fn limit(_t: Elem, mn: Interval, a: Interval, mx: Interval) -> Out
 pub fn sel(_t: Elem, g: Interval, in0: Interval, in1: Interval) -> Out
     ensures raw { result.raw ≡ selection.sel_row g in0 in1 }
     ensures result { result.result ≡ selection.sel_row g in0 in1 }
-    ensures laws { selection.MeetsTernaryLaws selection.chosen selection.sel_row g in0 in1 result.result }
+    ensures sound { laws.IsSound (laws.of_three selection.chosen g in0 in1) laws.same laws.any
+        result.raw result.result }
+    ensures monotone { laws.IsMonotone (laws.with_three selection.sel_row selection.sel_row g in0 in1)
+        result.raw result.result }
 {
     plain(chosen(g, in0, in1))
 }
@@ -49,7 +62,9 @@ pub fn sel(_t: Elem, g: Interval, in0: Interval, in1: Interval) -> Out
 pub fn convert(_from: Elem, to: Elem, a: Interval) -> Out
     ensures raw { result.raw ≡ a }
     ensures result { result.result ≡ rows.typed to a }
-    ensures laws { selection.MeetsConversionLaws to a result.result }
+    ensures sound { laws.IsSound (laws.of_one laws.same a) laws.same (laws.fits to) result.raw result.result }
+    ensures monotone { laws.IsMonotone (laws.with_one laws.whole (λ c. rows.typed to c) a) result.raw
+        result.result }
 {
     typed(to, a)
 }

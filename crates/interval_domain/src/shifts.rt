@@ -1,69 +1,79 @@
-// Shifts and rotations of intervals of bit patterns.
+// Shifts and rotations of the bit patterns in intervals.
 ghost use Rattle.std.specs.Prelude.{◌≡◌, ◌<◌, ◌≤◌, ◌-◌, ◌*◌, ◌^◌, pos, ◌≤ℤ◌};
 ghost use Rattle.iec_tables.specs.Types as types;
 ghost use Rattle.interval_domain.specs.Interval as intervals;
 ghost use Rattle.interval_domain.specs.Bits as bits;
 ghost use Rattle.interval_domain.specs.Shifts as rows;
+ghost use Rattle.interval_domain.specs.Laws as laws;
 
 use crate::bits::exact_or;
 use crate::interval::Interval;
 use crate::operators::{Out, plain};
+use crate::widths::{patterns, patterns_in, power, width};
 use iec_tables::elem::Elem;
 
-/// The patterns moved up by the counts. The first operand is of patterns of the type: for a bit string, numbers in its range.
+/// The patterns moved up by the counts. Of the first operand only what is patterns of the type counts: for a bit string, all that
+/// is in its range.
 pub fn shl(t: Elem, a: Interval, n: Interval) -> Out
-    requires { intervals.IsWithin a (bits.bits_range t) }
-    ensures raw { result.raw ≡ rows.shl_row (types.width_of t) a n }
-    ensures result { result.result ≡ rows.shl_row (types.width_of t) a n }
-    ensures laws { rows.MeetsShiftLaws rows.shl_of rows.shl_row (types.width_of t) a n result.result }
+    ensures raw { result.raw ≡ rows.shl_row (types.width_of t) (bits.patterns_in (types.width_of t) a) n }
+    ensures result { result.result ≡ rows.shl_row (types.width_of t)
+        (bits.patterns_in (types.width_of t) a) n }
+    ensures sound { laws.IsSound
+        (laws.of_two (rows.shl_of (types.width_of t)) (bits.patterns_in (types.width_of t) a) n)
+        laws.same laws.any result.raw result.result }
+    ensures monotone { laws.IsMonotone
+        (laws.with_two (rows.cut_row rows.shl_row (types.width_of t))
+        (rows.cut_row rows.shl_row (types.width_of t)) a n) result.raw result.result }
 {
-    plain(shl_bounds(width(t), a, n))
+    plain(shl_bounds(width(t), patterns_in(t, a), n))
 }
 
-/// The patterns moved down by the counts. The first operand is of patterns of the type: for a bit string, numbers in its range.
+/// The patterns moved down by the counts. Of the first operand only what is patterns of the type counts: for a bit string, all that
+/// is in its range.
 pub fn shr(t: Elem, a: Interval, n: Interval) -> Out
-    requires { intervals.IsWithin a (bits.bits_range t) }
-    ensures raw { result.raw ≡ rows.shr_row (types.width_of t) a n }
-    ensures result { result.result ≡ rows.shr_row (types.width_of t) a n }
-    ensures laws { rows.MeetsShiftLaws rows.shr_of rows.shr_row (types.width_of t) a n result.result }
+    ensures raw { result.raw ≡ rows.shr_row (types.width_of t) (bits.patterns_in (types.width_of t) a) n }
+    ensures result { result.result ≡ rows.shr_row (types.width_of t)
+        (bits.patterns_in (types.width_of t) a) n }
+    ensures sound { laws.IsSound
+        (laws.of_two (rows.shr_of (types.width_of t)) (bits.patterns_in (types.width_of t) a) n)
+        laws.same laws.any result.raw result.result }
+    ensures monotone { laws.IsMonotone
+        (laws.with_two (rows.cut_row rows.shr_row (types.width_of t))
+        (rows.cut_row rows.shr_row (types.width_of t)) a n) result.raw result.result }
 {
-    plain(shr_bounds(width(t), a, n))
+    plain(shr_bounds(width(t), patterns_in(t, a), n))
 }
 
-/// The patterns turned up by the counts. The first operand is of patterns of the type: for a bit string, numbers in its range.
+/// The patterns turned up by the counts. Of the first operand only what is patterns of the type counts: for a bit string, all that
+/// is in its range.
 pub fn rol(t: Elem, a: Interval, n: Interval) -> Out
-    requires { intervals.IsWithin a (bits.bits_range t) }
-    ensures raw { result.raw ≡ rows.rol_row (types.width_of t) a n }
-    ensures result { result.result ≡ rows.rol_row (types.width_of t) a n }
-    ensures laws { rows.MeetsShiftLaws rows.rol_of rows.rol_row (types.width_of t) a n result.result }
+    ensures raw { result.raw ≡ rows.rol_row (types.width_of t) (bits.patterns_in (types.width_of t) a) n }
+    ensures result { result.result ≡ rows.rol_row (types.width_of t)
+        (bits.patterns_in (types.width_of t) a) n }
+    ensures sound { laws.IsSound
+        (laws.of_two (rows.rol_of (types.width_of t)) (bits.patterns_in (types.width_of t) a) n)
+        laws.same laws.any result.raw result.result }
+    ensures monotone { laws.IsMonotone
+        (laws.with_two (rows.cut_row rows.rol_row (types.width_of t))
+        (rows.cut_row rows.rol_row (types.width_of t)) a n) result.raw result.result }
 {
-    plain(rol_bounds(width(t), a, n))
+    plain(rol_bounds(width(t), patterns_in(t, a), n))
 }
 
-/// The patterns turned down by the counts. The first operand is of patterns of the type: for a bit string, numbers in its
-/// range.
+/// The patterns turned down by the counts. Of the first operand only what is patterns of the type counts: for a bit string, all that
+/// is in its range.
 pub fn ror(t: Elem, a: Interval, n: Interval) -> Out
-    requires { intervals.IsWithin a (bits.bits_range t) }
-    ensures raw { result.raw ≡ rows.ror_row (types.width_of t) a n }
-    ensures result { result.result ≡ rows.ror_row (types.width_of t) a n }
-    ensures laws { rows.MeetsShiftLaws rows.ror_of rows.ror_row (types.width_of t) a n result.result }
+    ensures raw { result.raw ≡ rows.ror_row (types.width_of t) (bits.patterns_in (types.width_of t) a) n }
+    ensures result { result.result ≡ rows.ror_row (types.width_of t)
+        (bits.patterns_in (types.width_of t) a) n }
+    ensures sound { laws.IsSound
+        (laws.of_two (rows.ror_of (types.width_of t)) (bits.patterns_in (types.width_of t) a) n)
+        laws.same laws.any result.raw result.result }
+    ensures monotone { laws.IsMonotone
+        (laws.with_two (rows.cut_row rows.ror_row (types.width_of t))
+        (rows.cut_row rows.ror_row (types.width_of t)) a n) result.raw result.result }
 {
-    plain(ror_bounds(width(t), a, n))
-}
-
-/// How many bits a type has.
-pub fn width(t: Elem) -> u32
-    ensures value { result ≡ types.width_of t }
-    ensures some { 0 < result }
-    ensures few { result ≤ 64 }
-{
-    match t {
-        Elem::Bool => 1,
-        Elem::Sint | Elem::Usint | Elem::Byte => 8,
-        Elem::Int | Elem::Uint | Elem::Word => 16,
-        Elem::Dint | Elem::Udint | Elem::Dword => 32,
-        Elem::Lint | Elem::Ulint | Elem::Lword | Elem::Time => 64,
-    }
+    plain(ror_bounds(width(t), patterns_in(t, a), n))
 }
 
 fn shr_bounds(width: u32, a: Interval, n: Interval) -> Interval
@@ -116,13 +126,6 @@ fn ror_bounds(width: u32, a: Interval, n: Interval) -> Interval
     ensures ordered { intervals.IsOrdered a × intervals.IsOrdered n }
 {
     moved_bounds!(ror_of, width, a, n)
-}
-
-fn patterns(width: u32) -> Interval
-    requires { width ≤ 64 }
-    ensures { result ≡ bits.patterns width }
-{
-    Interval::of(0, (power(width) - 1) as i128)
 }
 
 fn shl_of(width: u32, x: i128, n: i128) -> i128
@@ -199,15 +202,6 @@ fn turns(width: u32, n: i128) -> u32
     } else {
         (n as u128 % width as u128) as u32
     }
-}
-
-fn power(k: u32) -> u128
-    requires { k ≤ 64 }
-    ensures value { result ≡ 2 ^ k }
-    ensures bound { result ≤ 2 ^ 64 }
-    ensures some { 0 < result }
-{
-    1 << k
 }
 
 fn moved_up(x: u128, k: u32) -> u128

@@ -1,9 +1,9 @@
 // Tables of intervals: one for each entry.
 
-ghost use Rattle.std.specs.Prelude.{◌≡◌, ℕ, ◌<◌, true, false, IfOk, OnOk, IsTrue, length, replicate, slice_set};
+ghost use Rattle.std.specs.Prelude.{◌≡◌, ◌<◌, ◌≤◌, true, false, IfOk, length, replicate, slice_range, slice_set};
 ghost use Rattle.interval_domain.specs.Interval as intervals;
-ghost use Rattle.least_table.specs.System.{at, AreWithin};
-ghost use Rattle.least_table.specs.Rounds.{Exceeds};
+ghost use Rattle.least_table.specs.System.{at};
+ghost use Rattle.least_table.specs.steps.Worklist.{Exceeds};
 
 use interval_domain::interval::{Interval, join};
 use std::alloc::{AllocError, Global};
@@ -25,7 +25,7 @@ impl Model for Table {
 
 impl Table {
     /// A table of empty intervals.
-    pub(crate) fn new(alloc: Global, entries: usize) -> Result<Table, AllocError>
+    pub fn new(alloc: Global, entries: usize) -> Result<Table, AllocError>
         ensures { IfOk result (λ table. table ≡ replicate entries intervals.Empty) }
     {
         Ok(Table {
@@ -41,6 +41,15 @@ impl Table {
         self.intervals[entry]
     }
 
+    /// The intervals of the entries from one on to before another.
+    pub fn slice(&self, from: usize, to: usize) -> &[Interval]
+        requires order { from ≤ to }
+        requires within { to ≤ length self.now }
+        ensures { result.now ≡ slice_range self.now from to }
+    {
+        &self.intervals[from..to]
+    }
+
     /// Joins an interval into that of an entry.
     pub fn join_at(&mut self, entry: usize, i: Interval)
         requires { entry < length self.old }
@@ -49,31 +58,17 @@ impl Table {
         self.intervals[entry] = join(self.intervals[entry], i);
     }
 
-    /// Whether an interval of this table reaches beyond that of the other table.
-    pub(crate) fn exceeds(&self, other: &Table) -> bool
-        requires { length self.now ≡ length other.now }
-        ensures within { result ≡ false → AreWithin self.now other.now }
-        ensures beyond { result ≡ true → (entry : ℕ) × Exceeds (at other.now entry) (at self.now entry) }
+    /// Gives an entry another interval.
+    pub(crate) fn put(&mut self, entry: usize, i: Interval)
+        requires { entry < length self.old }
+        ensures { self.new ≡ slice_set self.old entry i }
     {
-        for entry in 0..self.intervals.len() {
-            if is_beyond(self.get(entry), other.get(entry)) {
-                return true;
-            }
-        }
-        false
-    }
-
-    /// Takes the intervals of another table of as many entries.
-    pub(crate) fn take_from(&mut self, other: &Table)
-        requires { length self.old ≡ length other.now }
-        ensures { self.new ≡ other.now }
-    {
-        self.intervals.copy_from_slice(&other.intervals);
+        self.intervals[entry] = i;
     }
 }
 
 /// Whether the first interval reaches beyond the second.
-fn is_beyond(i: Interval, other: Interval) -> bool
+pub(crate) fn is_beyond(i: Interval, other: Interval) -> bool
     ensures within { result ≡ false → intervals.IsWithin i other }
     ensures beyond { result ≡ true → Exceeds other i }
 {

@@ -3,7 +3,7 @@ use Rattle.std.proofs.Common.{◌≡◌, Bool, List, [], ◌∷◌, ◌++◌, Op
 use Rattle.token_grammar.specs.declared.token.TokenKind.{TokenKind}
 use Rattle.token_grammar.specs.declared.token.TokenKind.TheVariants as k
 use Rattle.token_grammar.specs.Texts.{Lexeme}
-use Rattle.token_grammar.specs.Input.{sees_in}
+use Rattle.token_grammar.specs.steps.Parsers.{sees_in}
 use Rattle.token_grammar.proofs.Laws.{Exact}
 use Rattle.token_grammar.proofs.Starts.{sees_any, IsLevel, bind_starts, bind_give, starts_bind}
 use Rattle.token_grammar.proofs.Forms.{Form, level_carries, form_take, form_then, form_as, form_or, form_node, form_scoped, exact_optional, level_bind, level_give, level_or, level_node, level_scoped, level_then}

@@ -1,7 +1,7 @@
 // Charts: an initial step, and steps, transitions and actions in any order.
 
 ghost use Rattle.std.specs.Prelude.{◌≡◌};
-ghost use Rattle.token_grammar.specs.Input.{Reads, ReadsTo, view};
+ghost use Rattle.token_grammar.specs.steps.Parsers.{Reads, ReadsTo, view};
 ghost use Rattle.sfc_text.specs.steps.Parse as spec;
 
 use crate::actions::action;

@@ -1,7 +1,7 @@
 // Steps, with the actions that they have.
 
 ghost use Rattle.std.specs.Prelude.{◌≡◌};
-ghost use Rattle.token_grammar.specs.Input.{Reads, ReadsTo, view};
+ghost use Rattle.token_grammar.specs.steps.Parsers.{Reads, ReadsTo, view};
 ghost use Rattle.sfc_text.specs.steps.Parse as spec;
 
 use st_expr::{identifier, node_at};

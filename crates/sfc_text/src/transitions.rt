@@ -1,7 +1,7 @@
 // Transitions between steps.
 
 ghost use Rattle.std.specs.Prelude.{◌≡◌};
-ghost use Rattle.token_grammar.specs.Input.{Reads, view};
+ghost use Rattle.token_grammar.specs.steps.Parsers.{Reads, view};
 ghost use Rattle.sfc_text.specs.steps.Parse as spec;
 
 use crate::steps::optional_name;

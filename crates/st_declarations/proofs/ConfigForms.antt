@@ -2,7 +2,7 @@
 use Rattle.std.proofs.Common.{◌≡◌, true, List, [], ◌∷◌, ◌++◌, Some, None, refl}
 use Rattle.token_grammar.specs.declared.token.TokenKind.{TokenKind}
 use Rattle.token_grammar.specs.declared.token.TokenKind.TheVariants as k
-use Rattle.token_grammar.specs.Input.{and_then, pure, take}
+use Rattle.token_grammar.specs.steps.Parsers.{and_then, pure, take}
 use Rattle.token_grammar.specs.Grammar.{◌>>=◌, give, token}
 use Rattle.token_grammar.proofs.Laws.{Exact}
 use Rattle.token_grammar.proofs.Starts.{sees_any, disjoint, Starts, IsLevel, bind_starts, bind_give, starts_bind, starts_token}

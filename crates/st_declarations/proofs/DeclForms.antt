@@ -3,7 +3,7 @@ use Rattle.std.proofs.Common.{◌≡◌, ℕ, List, [], ◌∷◌, Option, Some,
 use Rattle.token_grammar.specs.declared.token.TokenKind.{TokenKind}
 use Rattle.token_grammar.specs.declared.token.TokenKind.TheVariants as k
 use Rattle.token_grammar.specs.Texts.{Lexeme}
-use Rattle.token_grammar.specs.Input.{and_then, pure, take, sees_in}
+use Rattle.token_grammar.specs.steps.Parsers.{and_then, pure, take, sees_in}
 use Rattle.token_grammar.specs.Grammar.{◌>>=◌, give, token}
 use Rattle.token_grammar.proofs.Laws.{Exact}
 use Rattle.token_grammar.proofs.Starts.{sees_any, Starts, IsLevel, bind_starts, starts_bind, starts_token}

@@ -6,7 +6,7 @@ use Rattle.token_grammar.specs.declared.token.TokenKind.{TokenKind}
 use Rattle.token_grammar.specs.declared.token.TokenKind.TheVariants as k
 use Rattle.token_grammar.specs.Texts.{Lexeme}
 use Rattle.token_grammar.specs.Kinds.{is_kind}
-use Rattle.token_grammar.specs.Input.{Parser, and_then, pure, choose, sees_two, sees_three}
+use Rattle.token_grammar.specs.steps.Parsers.{Parser, and_then, pure, choose, sees_two, sees_three}
 use Rattle.token_grammar.specs.Grammar.{Word, Rule, lexemes_of, ◌>>=◌, ◌or◌, give}
 use Rattle.token_grammar.proofs.Laws.{input, Exact, Some_, Held}
 use Rattle.token_grammar.proofs.OneToken.{a_token, same_kind_refl}

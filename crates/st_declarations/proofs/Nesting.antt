@@ -1,7 +1,7 @@
 -- Rules that nest to a depth, and what nests to a depth among what nests deeper.
 use Rattle.std.proofs.Common.{◌≡◌, ℕ, zero, suc, ◌+◌, ◌<◌, ◌≤◌, List, [], ◌∷◌, arith}
 use Rattle.token_grammar.specs.declared.token.TokenKind.{TokenKind}
-use Rattle.token_grammar.specs.Input.{Parser}
+use Rattle.token_grammar.specs.steps.Parsers.{Parser}
 use Rattle.token_grammar.specs.Grammar.{Rule}
 use Rattle.token_grammar.proofs.Laws.{Exact, Some_}
 use Rattle.token_grammar.proofs.Starts.{sees_any, Starts, IsLevel}

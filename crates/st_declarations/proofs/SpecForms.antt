@@ -3,7 +3,7 @@ use Rattle.std.proofs.Common.{◌≡◌, ℕ, zero, suc, ◌+◌, ◌<◌, false
 use Rattle.token_grammar.specs.declared.token.TokenKind.{TokenKind}
 use Rattle.token_grammar.specs.declared.token.TokenKind.TheVariants as k
 use Rattle.token_grammar.specs.Texts.{Lexeme}
-use Rattle.token_grammar.specs.Input.{Parser, sees_in}
+use Rattle.token_grammar.specs.steps.Parsers.{Parser, sees_in}
 use Rattle.token_grammar.specs.Grammar.{Rule}
 use Rattle.token_grammar.proofs.Laws.{Exact, Some_}
 use Rattle.token_grammar.proofs.Starts.{sees_any, Starts, Opens, IsLevel, bind_give, starts_bind, starts_or, starts_scoped, starts_node, starts_token, or_false}

@@ -1,7 +1,7 @@
 // Configurations, resources and tasks.
 
 ghost use Rattle.std.specs.Prelude.{◌≡◌};
-ghost use Rattle.token_grammar.specs.Input.{Reads, view};
+ghost use Rattle.token_grammar.specs.steps.Parsers.{Reads, view};
 ghost use Rattle.st_declarations.specs.steps.Parse as spec;
 
 use crate::declarations::GlobalsReader;

@@ -2,7 +2,7 @@
 // rule is proved by itself.
 
 ghost use Rattle.std.specs.Prelude.{◌≡◌};
-ghost use Rattle.token_grammar.specs.Input.{Reads, sees_two, sees_three, view};
+ghost use Rattle.token_grammar.specs.steps.Parsers.{Reads, sees_two, sees_three, view};
 ghost use Rattle.token_grammar.specs.declared.token.TokenKind.TheVariants as kind;
 ghost use Rattle.st_declarations.specs.steps.Parse as spec;
 ghost use Rattle.st_declarations.specs.steps.Nests.{Nests};

@@ -1,7 +1,7 @@
 // Lists of what one function reads: one after the other, or with commas between them.
 
 ghost use Rattle.std.specs.Prelude.{◌≡◌};
-ghost use Rattle.token_grammar.specs.Input.{Parser, Reads, ReadsTo, view};
+ghost use Rattle.token_grammar.specs.steps.Parsers.{Parser, Reads, ReadsTo, view};
 ghost use Rattle.st_declarations.specs.steps.Parse as spec;
 
 use std::alloc::Global;

@@ -7,7 +7,7 @@ use Rattle.token_grammar.specs.declared.token.TokenKind.{TokenKind}
 use Rattle.token_grammar.specs.declared.token.TokenKind.TheVariants as k
 use Rattle.token_grammar.specs.Texts.{Lexeme}
 use Rattle.token_grammar.specs.Kinds.{is_kind}
-use Rattle.token_grammar.specs.Input.{Parser, and_then, pure, take, sees_two}
+use Rattle.token_grammar.specs.steps.Parsers.{Parser, and_then, pure, take, sees_two}
 use Rattle.token_grammar.specs.Grammar.{Word, Rule, lexemes_of, max_depth, ◌>>=◌, give, token}
 use Rattle.token_grammar.proofs.Laws.{input, Exact, Held}
 use Rattle.token_grammar.proofs.Steps.{exact_node}

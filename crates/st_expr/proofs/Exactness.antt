@@ -4,7 +4,7 @@ use Rattle.token_grammar.specs.declared.token.TokenKind.{TokenKind}
 use Rattle.token_grammar.specs.declared.token.TokenKind.TheVariants as k
 use Rattle.token_grammar.specs.Texts.{Lexeme}
 use Rattle.token_grammar.specs.Kinds.{is_kind}
-use Rattle.token_grammar.specs.Input.{Parser, and_then, repeated, node as node_of}
+use Rattle.token_grammar.specs.steps.Parsers.{Parser, and_then, repeated, node as node_of}
 use Rattle.token_grammar.specs.Grammar.{Rule, ◌>>=◌, node, many}
 use Rattle.token_grammar.proofs.Laws.{Exact, Some_}
 use Rattle.token_grammar.proofs.OneToken.{a_token, same_kind_refl}

@@ -1,6 +1,6 @@
 -- Levels of operators, one above the other.
 use Rattle.std.proofs.Common.{◌≡◌, ℕ, zero, suc, ◌+◌, ◌-◌, ◌≤◌, Ok, Err, ap, subst, ◌∙◌, arith}
-use Rattle.token_grammar.specs.Input.{Input, Stop, Outcome, Parser, and_then, with_place, start}
+use Rattle.token_grammar.specs.steps.Parsers.{Input, Stop, Outcome, Parser, and_then, with_place, start}
 use Rattle.st_tree.specs.declared.expression.Expr.{Expr}
 use Rattle.st_expr.specs.Trees.{from_start}
 use Rattle.st_expr.specs.steps.Parse.{level, chain}

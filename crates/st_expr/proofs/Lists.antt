@@ -3,7 +3,7 @@ use Rattle.std.proofs.Common.{◌≡◌, ℕ, suc, ◌+◌, ◌≤◌, Bool, tru
 use Rattle.token_grammar.specs.declared.token.TokenKind.{TokenKind}
 use Rattle.token_grammar.specs.declared.token.TokenKind.TheVariants as k
 use Rattle.token_grammar.specs.Texts.{Lexeme}
-use Rattle.token_grammar.specs.Input.{Parser, and_then, pure, take, repeated, sees_in}
+use Rattle.token_grammar.specs.steps.Parsers.{Parser, and_then, pure, take, repeated, sees_in}
 use Rattle.token_grammar.specs.Grammar.{Rule, ◌>>=◌, give, token, many}
 use Rattle.token_grammar.proofs.Laws.{Exact}
 use Rattle.token_grammar.proofs.Steps.{exact_same}

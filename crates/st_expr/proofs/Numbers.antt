@@ -4,7 +4,7 @@ use Rattle.token_grammar.specs.declared.token.TokenKind.{TokenKind}
 use Rattle.token_grammar.specs.declared.token.TokenKind.TheVariants as k
 use Rattle.token_grammar.specs.Texts.{Lexeme}
 use Rattle.token_grammar.specs.Kinds.{is_kind}
-use Rattle.token_grammar.specs.Input.{sees_in, sees_two, sees_three}
+use Rattle.token_grammar.specs.steps.Parsers.{sees_in, sees_two, sees_three}
 use Rattle.token_grammar.specs.Grammar.{Word, Rule, lexemes_of, ◌>>=◌, ◌or◌, give, token_as, node}
 use Rattle.token_grammar.proofs.Laws.{lexemes_of-two}
 use Rattle.token_grammar.proofs.OneToken.{a_token, same_kind_refl}

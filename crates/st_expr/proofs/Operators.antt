@@ -3,7 +3,7 @@ use Rattle.std.proofs.Common.{◌≡◌, ℕ, Bool, true, false, cond, ◌||◌,
 use Rattle.token_grammar.specs.declared.token.TokenKind.{TokenKind}
 use Rattle.token_grammar.specs.declared.token.TokenKind.TheVariants as k
 use Rattle.token_grammar.specs.Texts.{Lexeme}
-use Rattle.token_grammar.specs.Input.{sees_in}
+use Rattle.token_grammar.specs.steps.Parsers.{sees_in}
 use Rattle.token_grammar.proofs.Starts.{sees_any}
 use Rattle.token_grammar.proofs.Forms.{Form, form_token, form_as, form_or}
 use Rattle.st_tree.specs.declared.expression.BinaryOperator.{BinaryOperator}

@@ -1,7 +1,7 @@
 // Expressions. The rules that hold expressions take the parser of those as a parameter, so that each is proved by itself.
 
 ghost use Rattle.std.specs.Prelude.{◌≡◌, IfOk};
-ghost use Rattle.token_grammar.specs.Input.{Reads, ReadsTo, sees_two, view};
+ghost use Rattle.token_grammar.specs.steps.Parsers.{Reads, ReadsTo, sees_two, view};
 ghost use Rattle.token_grammar.specs.declared.token.TokenKind.TheVariants as kind;
 ghost use Rattle.st_tree.specs.declared.expression.Expr.TheVariants as trees;
 ghost use Rattle.st_tree.specs.declared.expression.UnaryOperator.TheVariants as unary;

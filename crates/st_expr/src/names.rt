@@ -1,7 +1,7 @@
 // Tokens that stand for themselves: names, addresses and the texts of literals.
 
 ghost use Rattle.std.specs.Prelude.{◌≡◌};
-ghost use Rattle.token_grammar.specs.Input.{Reads, ReadsTo, view};
+ghost use Rattle.token_grammar.specs.steps.Parsers.{Reads, ReadsTo, view};
 ghost use Rattle.st_tree.specs.Places as places;
 ghost use Rattle.st_expr.specs.steps.Parse as spec;
 

@@ -1,7 +1,7 @@
 // Variables and parts of them.
 
 ghost use Rattle.std.specs.Prelude.{◌≡◌};
-ghost use Rattle.token_grammar.specs.Input.{Reads, ReadsTo, view};
+ghost use Rattle.token_grammar.specs.steps.Parsers.{Reads, ReadsTo, view};
 ghost use Rattle.st_expr.specs.steps.Parse as spec;
 ghost use Rattle.st_expr.specs.steps.Nests.{Nests};
 

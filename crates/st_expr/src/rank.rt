@@ -1,7 +1,7 @@
 // Binary operators, by how tightly they bind.
 
 ghost use Rattle.std.specs.Prelude.{◌≡◌};
-ghost use Rattle.token_grammar.specs.Input.{Reads, view};
+ghost use Rattle.token_grammar.specs.steps.Parsers.{Reads, view};
 ghost use Rattle.st_expr.specs.steps.Parse as spec;
 ghost use Rattle.st_expr.specs.Trees as trees;
 

@@ -1,7 +1,7 @@
 // Expressions and paths to any depth.
 
 ghost use Rattle.std.specs.Prelude.{◌≡◌};
-ghost use Rattle.token_grammar.specs.Input.{Reads, view};
+ghost use Rattle.token_grammar.specs.steps.Parsers.{Reads, view};
 ghost use Rattle.st_expr.specs.steps.Parse as spec;
 
 use crate::expressions::{Grammar, expression_at};

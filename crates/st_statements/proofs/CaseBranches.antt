@@ -7,7 +7,8 @@ use Rattle.st_tree.specs.declared.expression.Identifier.{Identifier}
 use Rattle.st_tree.specs.declared.statement.Stmt.{Stmt}
 use Rattle.st_tree.specs.declared.statement.Case.{Case}
 use Rattle.st_tree.specs.declared.statement.Label.{Label}
-use Rattle.st_statements.specs.Trees.{Branches, case_of, labelled, closed, with_stmt, with_labels}
+use Rattle.st_statements.specs.Trees.{case_of}
+use Rattle.st_statements.specs.steps.ReadTrees.{Branches, labelled, closed, with_stmt, with_labels}
 use Rattle.st_expr.specs.Grammar.{identifier}
 use Rattle.st_statements.specs.Grammar as g
 use Rattle.st_statements.specs.steps.Reading as reading

@@ -2,7 +2,7 @@
 use Rattle.std.proofs.Common.{ℕ, ◌+◌, ◌≤◌, true, false, List, [], ◌∷◌, ◌++◌, refl}
 use Rattle.token_grammar.specs.declared.token.TokenKind.{TokenKind}
 use Rattle.token_grammar.specs.declared.token.TokenKind.TheVariants as k
-use Rattle.token_grammar.specs.Input.{and_then, pure, take}
+use Rattle.token_grammar.specs.steps.Parsers.{and_then, pure, take}
 use Rattle.token_grammar.specs.Grammar.{◌>>=◌, give, token, many}
 use Rattle.token_grammar.proofs.Laws.{Exact}
 use Rattle.token_grammar.proofs.Starts.{sees_any, Starts, IsLevel, starts_bind, starts_token, starts_option, bind_starts, bind_give, or_false}

@@ -16,7 +16,8 @@ use Rattle.st_tree.specs.declared.statement.Stmt.{Stmt}
 use Rattle.st_expr.specs.Trees.{make_index, make_path}
 use Rattle.st_expr.specs.Grammar.{identifier, address, field, index, more_parts, parts, path, located, expression}
 use Rattle.st_expr.proofs.Leaves.{form_identifier}
-use Rattle.st_statements.specs.Trees.{end_of_part, end_of_parts, path_from, call_from, assign_from, make_assign}
+use Rattle.st_statements.specs.Trees.{make_assign}
+use Rattle.st_statements.specs.steps.ReadTrees.{end_of_part, end_of_parts, path_from, call_from, assign_from}
 use Rattle.st_statements.specs.Grammar as g
 use Rattle.st_statements.specs.steps.Reading as reading
 use Rattle.token_grammar.proofs.Forms.{Anywhere}

@@ -4,7 +4,7 @@ use Rattle.std.proofs.Common.{◌≡◌, ℕ, zero, suc, ◌+◌, ◌<◌, ◌�
 use Rattle.token_grammar.specs.declared.token.TokenKind.{TokenKind}
 use Rattle.token_grammar.specs.declared.token.TokenKind.TheVariants as k
 use Rattle.token_grammar.specs.Texts.{Lexeme}
-use Rattle.token_grammar.specs.Input.{Parser, and_then, pure, take, sees_in}
+use Rattle.token_grammar.specs.steps.Parsers.{Parser, and_then, pure, take, sees_in}
 use Rattle.token_grammar.specs.Grammar.{Rule, ◌>>=◌, ◌or◌, give, token, token_as, many}
 use Rattle.token_grammar.proofs.Laws.{Exact, Some_}
 use Rattle.token_grammar.proofs.Bind.{bind}
@@ -20,7 +20,8 @@ use Rattle.st_tree.specs.declared.statement.Stmt.{Stmt}
 use Rattle.st_tree.specs.declared.statement.Branch.{Branch}
 use Rattle.st_tree.specs.declared.statement.Label.{Label}
 use Rattle.st_expr.specs.Grammar.{expression as expression_rule}
-use Rattle.st_statements.specs.Trees.{branch_of, make_return, make_exit, make_continue, make_if, make_case, make_for, make_while, make_repeat, counter_of, Branches, labelled, closed, with_stmt, with_labels}
+use Rattle.st_statements.specs.Trees.{branch_of, make_return, make_exit, make_continue, make_if, make_case, make_for, make_while, make_repeat, counter_of}
+use Rattle.st_statements.specs.steps.ReadTrees.{Branches, labelled, closed, with_stmt, with_labels}
 use Rattle.st_statements.specs.Grammar as g
 use Rattle.st_expr.specs.steps.Parse as e
 use Rattle.st_statements.specs.steps.Reading as reading

@@ -10,7 +10,8 @@ use Rattle.st_tree.specs.declared.expression.Identifier.{Identifier}
 use Rattle.st_tree.specs.declared.expression.Part.{Part}
 use Rattle.st_tree.specs.declared.statement.Stmt.{Stmt}
 use Rattle.st_tree.specs.declared.statement.StmtArgument.{StmtArgument}
-use Rattle.st_statements.specs.Trees.{path_from, argument_ended, input_of, output_of, assign_from, call_from, make_assign, make_return, make_exit, make_continue}
+use Rattle.st_statements.specs.Trees.{argument_ended, input_of, output_of, make_assign, make_return, make_exit, make_continue}
+use Rattle.st_statements.specs.steps.ReadTrees.{path_from, assign_from, call_from}
 use Rattle.st_expr.specs.Grammar.{expression as expression_rule, located as located_rule, path as path_rule, more_parts as more_parts_rule}
 use Rattle.st_expr.specs.steps.Parse as e
 use Rattle.st_statements.specs.Grammar as g

@@ -1,3 +1,4 @@
+pub mod ReadTrees
 pub mod Parse
 pub mod Nests
 pub mod Held

@@ -1,9 +1,9 @@
 // CASE. Labels and statements that begin with a name are told apart behind the name, so the branches are read as one list.
 
 ghost use Rattle.std.specs.Prelude.{◌≡◌, IfOk};
-ghost use Rattle.token_grammar.specs.Input.{Reads, ReadsAs, view};
+ghost use Rattle.token_grammar.specs.steps.Parsers.{Reads, ReadsAs, view};
 ghost use Rattle.st_statements.specs.steps.Parse as spec;
-ghost use Rattle.st_statements.specs.Trees as trees;
+ghost use Rattle.st_statements.specs.steps.ReadTrees as trees;
 ghost use Rattle.st_statements.specs.steps.Held.{branches_of};
 ghost use Rattle.st_statements.specs.steps.Nests.{NestsStatements};
 
@@ -97,8 +97,23 @@ impl Branches {
 }
 
 impl<F: Fn(Global, &mut Cursor<'_>, usize) -> Result<Stmt, ParseError>> Block<F> {
+    /// Labels of which the first begins with a name that was read.
+    #[tactic(auto, unfolding(crate::specs::steps::Parse::label_case))]
+    fn label_case(
+        &self,
+        cursor: &mut Cursor<'_>,
+        found: Branches,
+        name: Identifier,
+    ) -> Result<Branches, ParseError>
+        ensures { ReadsAs branches_of (spec.label_case (spec.nested self.now.nest) (branches_of found) name (view cursor.old)) result (view cursor.new) }
+    {
+        let first = point_behind(self.alloc, cursor, name)?;
+        let labels = labels_behind(self.alloc, cursor, first)?;
+        Ok(found.begin(self.alloc, labels)?)
+    }
+
     /// Behind a name: labels, or a statement.
-    #[tactic(auto, unfolding(crate::specs::steps::Parse::case_behind, crate::specs::steps::Parse::label_case))]
+    #[tactic(auto, unfolding(crate::specs::steps::Parse::case_behind))]
     fn case_behind(
         &self,
         cursor: &mut Cursor<'_>,
@@ -108,9 +123,7 @@ impl<F: Fn(Global, &mut Cursor<'_>, usize) -> Result<Stmt, ParseError>> Block<F>
         ensures { ReadsAs branches_of (spec.case_behind (spec.nested self.now.nest) (branches_of found) name (view cursor.old)) result (view cursor.new) }
     {
         if sees_label(cursor) {
-            let first = point_behind(self.alloc, cursor, name)?;
-            let labels = labels_behind(self.alloc, cursor, first)?;
-            return Ok(found.begin(self.alloc, labels)?);
+            return self.label_case(cursor, found, name);
         }
         let statement = behind_name(self.alloc, cursor, name)?;
         Ok(found.add(statement)?)

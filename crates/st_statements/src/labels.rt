@@ -1,7 +1,7 @@
 // Labels of a CASE.
 
 ghost use Rattle.std.specs.Prelude.{◌≡◌};
-ghost use Rattle.token_grammar.specs.Input.{Reads, ReadsTo, view};
+ghost use Rattle.token_grammar.specs.steps.Parsers.{Reads, ReadsTo, view};
 ghost use Rattle.st_statements.specs.steps.Parse as spec;
 ghost use Rattle.st_statements.specs.Trees as trees;
 

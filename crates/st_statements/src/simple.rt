@@ -1,9 +1,9 @@
 // Statements without others within: assignments, calls of instances, RETURN, EXIT and CONTINUE.
 
 ghost use Rattle.std.specs.Prelude.{◌≡◌};
-ghost use Rattle.token_grammar.specs.Input.{Reads, ReadsTo, view};
+ghost use Rattle.token_grammar.specs.steps.Parsers.{Reads, ReadsTo, view};
 ghost use Rattle.st_statements.specs.steps.Parse as spec;
-ghost use Rattle.st_statements.specs.Trees as trees;
+ghost use Rattle.st_statements.specs.steps.ReadTrees as trees;
 
 use st_expr::{expression, identifier, located, node_at, parts, path};
 use st_tree::{Identifier, Node, Part, Path, Root, Stmt, StmtArgument};

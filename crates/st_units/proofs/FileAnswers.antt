@@ -9,7 +9,7 @@ use Rattle.token_grammar.specs.declared.fault.ParseError.TheVariants as error
 use Rattle.token_grammar.specs.Texts.{Lexeme, lexeme, lexemes}
 use Rattle.token_grammar.specs.Kept.{is_kept, words_of, place_at}
 use Rattle.token_grammar.specs.Grammar.{lexemes_of, Spells, IsTooDeep, IsWrong}
-use Rattle.token_grammar.specs.Input.{Input, Reads}
+use Rattle.token_grammar.specs.steps.Parsers.{Input, Reads}
 use Rattle.token_grammar.proofs.Laws.{input}
 use Rattle.token_grammar.proofs.Whole.{one_spelled, not_deep, one_wrong, one_deep, not_both}
 use Rattle.st_lexer.specs.Placed.{IsIn}

@@ -3,7 +3,7 @@ use Rattle.std.proofs.Common.{◌≡◌, ◌⊎◌, ℕ, Bool, false, List, [], 
 use Rattle.token_grammar.specs.declared.fault.ParseError.{ParseError}
 use Rattle.token_grammar.specs.declared.fault.ParseError.TheVariants as cause
 use Rattle.token_grammar.specs.Texts.{Lexeme}
-use Rattle.token_grammar.specs.Input.{Input, Stop, Outcome, Parser, and_then, pure, Reads}
+use Rattle.token_grammar.specs.steps.Parsers.{Input, Stop, Outcome, Parser, and_then, pure, Reads}
 use Rattle.token_grammar.specs.Grammar.{Rule, Spells, IsWrong, IsTooDeep}
 use Rattle.token_grammar.proofs.Laws.{Told, Reason, input, Exact}
 use Rattle.token_grammar.proofs.Whole.{whole, wrong_behind, wrong_at, deep_at}

@@ -10,8 +10,8 @@ use Rattle.token_grammar.specs.declared.fault.ParseError.{ParseError}
 use Rattle.token_grammar.specs.declared.fault.ParseError.TheVariants as error
 use Rattle.token_grammar.specs.Texts.{Lexeme, lexeme, lexemes}
 use Rattle.token_grammar.specs.Kept.{is_kept, words_of, place_at}
-use Rattle.token_grammar.specs.Grammar.{Rule, lexemes_of, SpellsFront, IsFault, IsTooDeep, max_depth}
-use Rattle.token_grammar.specs.Input.{Input, Stop, Outcome, Parser}
+use Rattle.token_grammar.specs.Grammar.{Rule, lexemes_of, SpellsFront, IsGrammarFault, IsTooDeep, max_depth}
+use Rattle.token_grammar.specs.steps.Parsers.{Input, Stop, Outcome, Parser}
 use Rattle.token_grammar.proofs.Laws.{Told, Reason, input, Exact}
 use Rattle.token_grammar.proofs.Front.{spells, is_fault, is_too_deep}
 use Rattle.token_grammar.proofs.Forms.{Inner}
@@ -189,7 +189,7 @@ module _ {A : Type 0} {V : ℕ → Type 0} {p : Parser A} {L : Rule A} {more : L
 
 abbrev Split : {A : Type 0} → Rule A → ℕ → List Lexeme → List Lexeme → FaultCode → Type 0
 Split L outer words rest code =
-    ((code ≡ fault.Grammar) × IsFault L outer words rest)
+    ((code ≡ fault.Grammar) × IsGrammarFault L outer words rest)
     ⊎ ((code ≡ fault.TooDeep) × IsTooDeep L outer words rest)
 
 split : {A : Type 0} (L : Rule A) (outer : ℕ) (words rest : List Lexeme) (code : FaultCode)

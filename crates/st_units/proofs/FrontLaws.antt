@@ -2,8 +2,8 @@
 use Rattle.std.proofs.Common.{◌≡◌, ℕ, zero, suc, ◌≤◌, Bool, false, List, [], ◌∷◌, ◌++◌, Ok, Err, refl, sym, ap, subst, ◌∙◌, append_assoc, arith}
 use Rattle.std.proofs.lemmas.List.{append-nil, append_cancel_right}
 use Rattle.token_grammar.specs.Texts.{Lexeme}
-use Rattle.token_grammar.specs.Input.{Input, Outcome, Parser}
-use Rattle.token_grammar.specs.Grammar.{Word, Rule, lexemes_of, Begins, Stops, Spells, IsLongest, SpellsFront, IsFault, IsTooDeep, IsWrong}
+use Rattle.token_grammar.specs.steps.Parsers.{Input, Outcome, Parser}
+use Rattle.token_grammar.specs.Grammar.{Word, Rule, lexemes_of, Begins, Stops, Spells, IsLongestFront, SpellsFront, IsGrammarFault, IsTooDeep, IsWrong}
 use Rattle.token_grammar.proofs.Laws.{input, Told, Exact, Some_}
 use Rattle.token_grammar.proofs.Front.{one_value}
 use Rattle.token_grammar.proofs.OneFront.{begins_first, one_rest}
@@ -101,7 +101,7 @@ module _ {A : Type 0} (L : Rule A) (d : ℕ) where
   }
 
   longest_front : (ts : List Lexeme) (x : A) (rest : List Lexeme) → SpellsFront L d ts x rest
-      → IsLongest (at_start d L) ts rest
+      → IsLongestFront (at_start d L) ts rest
   longest_front ts x rest s = record {
     front = lexemes_of s.word;
     tokens = s.tokens;
@@ -117,7 +117,7 @@ module _ {A : Type 0} (L : Rule A) (d : ℕ) where
     stops = stops_start (lexemes_of s.word) rest s.longest;
   }
 
-  longest_fault : (ts rest : List Lexeme) → IsFault L d ts rest → IsLongest (at_start d L) ts rest
+  longest_fault : (ts rest : List Lexeme) → IsGrammarFault L d ts rest → IsLongestFront (at_start d L) ts rest
   longest_fault ts rest f = record {
     front = lexemes_of f.word;
     tokens = f.tokens;
@@ -155,13 +155,13 @@ module _ {A : Type 0} (L : Rule A) (d : ℕ) where
     unspelled = unspelled ts (lexemes_of s.word) t rest s.tokens s.longest;
   }
 
-  none_whole : (ts rest : List Lexeme) (f : IsFault L d ts rest) → ts ≡ lexemes_of f.word ++ rest
+  none_whole : (ts rest : List Lexeme) (f : IsGrammarFault L d ts rest) → ts ≡ lexemes_of f.word ++ rest
       → (y : A) → Spells (at_start d L) ts y → ⊥
   none_whole ts [] f is y s = f.unspelled s.word y s.depth s.spelled
       (sym s.tokens ∙ sym (append-nil (lexemes_of s.word)))
   none_whole ts (t ∷ rest) f is y s = unspelled ts (lexemes_of f.word) t rest is f.longest y s
 
-  wrong_fault : (ts rest : List Lexeme) → IsFault L d ts rest → IsWrong (at_start d L) ts rest
+  wrong_fault : (ts rest : List Lexeme) → IsGrammarFault L d ts rest → IsWrong (at_start d L) ts rest
   wrong_fault ts rest f = record {
     word = f.word;
     more = f.more;
@@ -204,7 +204,7 @@ module _ {A : Type 0} {V : ℕ → Type 0} {p : Parser A} {L : Rule A} {more : L
       (append_cancel_right (lexemes_of a.word) (lexemes_of b.word) s all) a.spelled b.spelled
       a.within b.within
 
-  pub front_not_fault : (ts r s : List Lexeme) (x : A) → SpellsFront L d ts x r → IsFault L d ts s
+  pub front_not_fault : (ts r s : List Lexeme) (x : A) → SpellsFront L d ts x r → IsGrammarFault L d ts s
       → ⊥
   front_not_fault ts r s x a f =
       let same : r ≡ s = one_rest (at_start d L) ts r s (longest_front L d ts x r a)
@@ -219,7 +219,7 @@ module _ {A : Type 0} {V : ℕ → Type 0} {p : Parser A} {L : Rule A} {more : L
   front_not_deep ts (t ∷ r) s x a b = not_both (exact_start d v h) open_end refl ts (t ∷ r) s
       (wrong_front L d ts x t r a) (deep_start L d ts s b)
 
-  pub one_fault : (ts r s : List Lexeme) → IsFault L d ts r → IsFault L d ts s → r ≡ s
+  pub one_fault : (ts r s : List Lexeme) → IsGrammarFault L d ts r → IsGrammarFault L d ts s → r ≡ s
   one_fault ts r s a b = one_rest (at_start d L) ts r s (longest_fault L d ts r a)
       (longest_fault L d ts s b)
 
@@ -227,6 +227,6 @@ module _ {A : Type 0} {V : ℕ → Type 0} {p : Parser A} {L : Rule A} {more : L
   one_too_deep ts r s a b = one_deep (exact_start d v h) open_end refl ts r s
       (deep_start L d ts r a) (deep_start L d ts s b)
 
-  pub fault_not_deep : (ts r s : List Lexeme) → IsFault L d ts r → IsTooDeep L d ts s → ⊥
+  pub fault_not_deep : (ts r s : List Lexeme) → IsGrammarFault L d ts r → IsTooDeep L d ts s → ⊥
   fault_not_deep ts r s a b = not_both (exact_start d v h) open_end refl ts r s
       (wrong_fault L d ts r a) (deep_start L d ts s b)

@@ -3,7 +3,7 @@ use Rattle.std.proofs.Common.{◌≡◌, ◌⊎◌, true, false, List, [], ◌�
 use Rattle.token_grammar.specs.declared.token.TokenKind.{TokenKind}
 use Rattle.token_grammar.specs.declared.token.TokenKind.TheVariants as k
 use Rattle.token_grammar.specs.Texts.{Lexeme}
-use Rattle.token_grammar.specs.Input.{Parser, and_then, pure, take, sees_in}
+use Rattle.token_grammar.specs.steps.Parsers.{Parser, and_then, pure, take, sees_in}
 use Rattle.token_grammar.specs.Grammar.{Word, Rule, lexemes_of, ◌>>=◌, ◌or◌, give, token}
 use Rattle.token_grammar.proofs.Laws.{Exact}
 use Rattle.token_grammar.proofs.Starts.{sees_any, disjoint, sees_other, only_false, IsLevel, bind_starts, bind_give}

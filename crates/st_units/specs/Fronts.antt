@@ -11,7 +11,7 @@ use Rattle.iec_tables.specs.declared.fault.FaultCode.TheVariants as fault
 use Rattle.token_grammar.specs.declared.token.Token.{Token}
 use Rattle.token_grammar.specs.Texts.{Lexeme}
 use Rattle.token_grammar.specs.Kept.{is_kept, words_of, place_at}
-use Rattle.token_grammar.specs.Grammar.{Rule, max_depth, SpellsFront, IsFault, IsTooDeep}
+use Rattle.token_grammar.specs.Grammar.{Rule, max_depth, SpellsFront, IsGrammarFault, IsTooDeep}
 use Rattle.st_units.specs.declared.fault.ParseFault.{ParseFault}
 use Rattle.st_units.specs.declared.fault.ParseFault.TheVariants.{At, Lex, NoMemory}
 
@@ -40,7 +40,7 @@ pub record IsFront {A : Type 0} (L : Rule A) (outer : ℕ) (text : List ℕ) (to
 -- longer do,
 -- and up to it they spell nothing; or they still do, and that one stands too deep.
 abbrev pub IsFrontCause : {A : Type 0} → Rule A → ℕ → List Lexeme → List Lexeme → FaultCode → Type 0
-IsFrontCause L outer words rest fault.Grammar = IsFault L outer words rest
+IsFrontCause L outer words rest fault.Grammar = IsGrammarFault L outer words rest
 IsFrontCause L outer words rest fault.TooDeep = IsTooDeep L outer words rest
 IsFrontCause L outer words rest other = ⊥
 

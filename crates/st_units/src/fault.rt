@@ -1,7 +1,7 @@
 // Why a text or a list of tokens has no tree.
 
 ghost use Rattle.std.specs.Prelude.{◌≡◌};
-ghost use Rattle.token_grammar.specs.Input.{view};
+ghost use Rattle.token_grammar.specs.steps.Parsers.{view};
 ghost use Rattle.token_grammar.specs.Kept.{place_at};
 ghost use Rattle.st_units.specs.steps.Found.{fault_of};
 

@@ -4,7 +4,7 @@
 ghost use Rattle.std.specs.Prelude.{◌≡◌, ◌+◌, ◌≤◌, [], IfOk, length, drop};
 ghost use Rattle.std.specs.List.{filter};
 ghost use Rattle.token_grammar.specs.Grammar.{max_depth};
-ghost use Rattle.token_grammar.specs.Input.{view};
+ghost use Rattle.token_grammar.specs.steps.Parsers.{view};
 ghost use Rattle.token_grammar.specs.Kept.{is_kept as keeps};
 ghost use Rattle.st_expr.specs.Grammar as expressions;
 ghost use Rattle.st_statements.specs.Grammar as lists;

@@ -1,7 +1,7 @@
 // Units, and files of them.
 
 ghost use Rattle.std.specs.Prelude.{◌≡◌};
-ghost use Rattle.token_grammar.specs.Input.{Reads, view};
+ghost use Rattle.token_grammar.specs.steps.Parsers.{Reads, view};
 ghost use Rattle.st_units.specs.steps.Parse as spec;
 
 use sfc_text::sfc;

@@ -33,11 +33,13 @@ first_same : {X : Type 0} (x y : X) (xs : List X) → xs ≡ x ∷ [] → xs ≡
 first_same x y xs a b = let e = sym a ∙ b in cc e
 
 -- the task of a component
-task_is : (unit : SourceUnit) (c : Component) (t : TaskCode) → IsComponent unit c → c.tasks ≡ t ∷ [] → IsTask unit t
+task_is : (unit : SourceUnit) (c : Component) (t : TaskCode) → IsComponent unit c → c.tasks ≡ t ∷ []
+    → IsTask unit t
 task_is unit c t h e = subst (IsTask unit) (first_same h.task t c.tasks h.tasks e) h.is_task
 
 -- two components of one unit
-pub alike : (unit : SourceUnit) (c d : Component) (t u : TaskCode) → IsComponent unit c → IsComponent unit d → c.tasks ≡ t ∷ [] → d.tasks ≡ u ∷ [] → AreAlike c d t u
+pub alike : (unit : SourceUnit) (c d : Component) (t u : TaskCode) → IsComponent unit c
+    → IsComponent unit d → c.tasks ≡ t ∷ [] → d.tasks ≡ u ∷ [] → AreAlike c d t u
 alike unit c d t u a b first second =
     let left = task_is unit c t a first in
     let right = task_is unit d u b second in
@@ -49,24 +51,40 @@ alike unit c d t u a b first second =
       shared = a.shared ∙ sym b.shared;
     }
 
-same_literals : (unit : SourceUnit) (c d : Component) → IsComponent unit c → IsComponent unit d → (n : ℤ) → Contains c.literals n ↔ Contains d.literals n
-same_literals unit c d a b n = ((λ h. (b.literals n).1 ((a.literals n).0 h)), (λ h. (a.literals n).1 ((b.literals n).0 h)))
+same_literals : (unit : SourceUnit) (c d : Component) → IsComponent unit c → IsComponent unit d
+    → (n : ℤ) → Contains c.literals n ↔ Contains d.literals n
+same_literals unit c d a b n =
+    ((λ h. (b.literals n).1 ((a.literals n).0 h)), (λ h. (a.literals n).1 ((b.literals n).0 h)))
 
-one_report_of : (name text : List ℕ) (tree : SourceTree) (made other : Report) → IsNumbered tree → IsReportOf name text tree made → IsReportOf name text tree other → made ≡ other
+one_report_of : (name text : List ℕ) (tree : SourceTree) (made other : Report) → IsNumbered tree
+    → IsReportOf name text tree made → IsReportOf name text tree other → made ≡ other
 one_report_of name text tree made other numbered a b =
     let unit : b.unit ≡ a.unit = first_same b.unit a.unit tree.units b.units a.units in
-    let planned : IsComponent a.unit b.component = subst (λ (u : SourceUnit). IsComponent u b.component) unit b.planned in
-    let same = alike a.unit a.component b.component a.task b.task a.planned planned a.tasks b.tasks in
-    let grid : b.grid ≡ a.grid = sym (one_grid a.component.literals b.component.literals a.grid b.grid (same_literals a.unit a.component b.component a.planned planned) a.grid_is b.grid_is) in
-    let solved : IsSolution a.grid b.component b.table = subst (λ (g : List ℤ). IsSolution g b.component b.table) grid b.solved in
-    let table : b.table ≡ a.table = sym (one_table a.grid a.component b.component a.task b.task a.table b.table same a.solved solved) in
+    let planned : IsComponent a.unit b.component =
+    subst (λ (u : SourceUnit). IsComponent u b.component) unit b.planned in
+    let same = alike a.unit a.component b.component a.task b.task a.planned planned a.tasks
+    b.tasks in
+    let grid : b.grid ≡ a.grid =
+    sym (one_grid a.component.literals b.component.literals a.grid b.grid
+    (same_literals a.unit a.component b.component a.planned planned) a.grid_is b.grid_is) in
+    let solved : IsSolution a.grid b.component b.table =
+    subst (λ (g : List ℤ). IsSolution g b.component b.table) grid b.solved in
+    let table : b.table ≡ a.table =
+    sym (one_table a.grid a.component b.component a.task b.task a.table b.table same a.solved
+    solved) in
     let log : (pass_of b.task b.table 0).log ≡ (pass_of a.task a.table 0).log =
-    ap (λ (t : List Part). (pass_of b.task t 0).log) table ∙ ap (λ (p : Passed). p.log) (sym (same_pass a.task b.task a.table 0 same.code)) in
+    ap (λ (t : List Part). (pass_of b.task t 0).log) table ∙ ap (λ (p : Passed). p.log)
+    (sym (same_pass a.task b.task a.table 0 same.code)) in
     let told : AreAlarms name text tree a.unit (pass_of a.task a.table 0).log other.alarms =
-    subst (λ (l : List Told). AreAlarms name text tree a.unit l other.alarms) log (subst (λ (u : SourceUnit). AreAlarms name text tree u (pass_of b.task b.table 0).log other.alarms) unit b.alarms) in
-    let ranges : AreRanges b.task a.table other.ranges = subst (λ (t : List Part). AreRanges b.task t other.ranges) table b.ranges in
-    one_plain made other (record { analysed = a.analysed; counted = a.counted; waived = a.waived }) (record { analysed = b.analysed; counted = b.counted; waived = b.waived })
-    (one_alarms name text tree a.unit (pass_of a.task a.table 0).log a.units numbered made.alarms other.alarms a.alarms told)
+    subst (λ (l : List Told). AreAlarms name text tree a.unit l other.alarms) log
+    (subst (λ (u : SourceUnit). AreAlarms name text tree u (pass_of b.task b.table 0).log
+    other.alarms) unit b.alarms) in
+    let ranges : AreRanges b.task a.table other.ranges =
+    subst (λ (t : List Part). AreRanges b.task t other.ranges) table b.ranges in
+    one_plain made other (record { analysed = a.analysed; counted = a.counted; waived = a.waived })
+    (record { analysed = b.analysed; counted = b.counted; waived = b.waived })
+    (one_alarms name text tree a.unit (pass_of a.task a.table 0).log a.units numbered made.alarms
+    other.alarms a.alarms told)
     (one_ranges a.task b.task a.table made.ranges other.ranges same.cells a.ranges ranges)
 
 -- ---- a text that is refused
@@ -76,20 +94,26 @@ refusal_at name line column code = record { file = name; line = line; column = c
 
 -- ---- the law, from those of the lexer and the parser
 
-module _ (one_tree : OneTree) (one_fault : OneTextFault) (not_both : NoTreeAndFault) (one_form : OneForm) where
+module _ (one_tree : OneTree) (one_fault : OneTextFault) (not_both : NoTreeAndFault)
+    (one_form : OneForm) where
   analysed : (name text : List ℕ) (made other : Report) → IsAnalysed name text made
       → IsAnalysed name text other → made ≡ other
   analysed name text made other a b =
-      let tree : a.tree ≡ b.tree = one_form_of one_tree one_form text a.tree b.tree a.spelled b.spelled in
+      let tree : a.tree ≡ b.tree =
+      one_form_of one_tree one_form text a.tree b.tree a.spelled b.spelled in
       one_report_of name text b.tree made other b.spelled.form.numbered
       (subst (λ (t : SourceTree). IsReportOf name text t made) tree a.report) b.report
 
-  one_refusal : (name text : List ℕ) (made other : Report) → IsRefusal name text made → IsRefusal name text other → made ≡ other
+  one_refusal : (name text : List ℕ) (made other : Report) → IsRefusal name text made
+      → IsRefusal name text other → made ≡ other
   one_refusal name text made other a b =
       let same = one_fault text a.code b.code a.at b.at a.fault b.fault in
-      let position = one_position text a.at b.at a.line a.column b.line b.column same.1 a.position b.position in
-      one_refused made other (refusal_at name a.line a.column a.code) (refusal_at name b.line b.column b.code) a.verdict_is b.verdict_is
-      (λ i. refusal_at name (position.0 i) (position.1 i) (same.0 i)) a.counted b.counted a.waived b.waived
+      let position = one_position text a.at b.at a.line a.column b.line b.column same.1 a.position
+      b.position in
+      one_refused made other (refusal_at name a.line a.column a.code)
+      (refusal_at name b.line b.column b.code) a.verdict_is b.verdict_is
+      (λ i. refusal_at name (position.0 i) (position.1 i) (same.0 i)) a.counted b.counted a.waived
+      b.waived
 
   pub one_report : (name text : List ℕ) (made other : Report) → IsReport name text made
       → IsReport name text other → made ≡ other
@@ -108,4 +132,5 @@ module _ (one_tree : OneTree) (one_fault : OneTextFault) (not_both : NoTreeAndFa
   one_report name text made other (inr (inr a)) (inr (inl b)) =
       absurd (not_both text a.file b.code b.at a.parsed b.fault)
   one_report name text made other (inr (inr a)) (inr (inr b)) =
-      one_unbuilt made other NotBuilt a.verdict_is b.verdict_is a.counted b.counted a.waived b.waived
+      one_unbuilt made other NotBuilt a.verdict_is b.verdict_is a.counted b.counted a.waived
+      b.waived

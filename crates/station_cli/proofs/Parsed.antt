@@ -1,8 +1,9 @@
 -- What the parts of the analysis may rely on of a tree.
-use Rattle.std.proofs.Common.{◌≡◌, ℕ, ◌<◌, ◌≤◌, List, [], ◌∷◌, ◌++◌, length, Option, Some, sym, ap, subst, ◌∙◌, ⊎_elim, arith}
+use Rattle.std.proofs.Common.{◌≡◌, ℕ, ◌<◌, ◌≤◌, List, [], ◌∷◌, ◌++◌, length, Option, Some, zero, refl, sym, ap, subst, ◌∙◌, ⊎_elim, arith}
 use Rattle.std.specs.Prelude.{flat_map}
 use Rattle.std.specs.List.{AllByRecursion, Contains}
 use Rattle.std.proofs.lemmas.List.{append-nil}
+use Rattle.std.proofs.lemmas.List.Elements.{Contains-append_left}
 use Rattle.std.proofs.lemmas.Option.{same_Some, none-some, option_and_then_some}
 use Rattle.st_tree.specs.Feeds.{feeds_from}
 use Rattle.st_tree.specs.declared.node.Node.{Node}
@@ -10,13 +11,14 @@ use Rattle.st_tree.specs.declared.file.Unit.{Unit as WrittenUnit}
 use Rattle.st_tree.specs.declared.file.SourceTree.{SourceTree as SourceFile}
 use Rattle.tree_numbers.specs.NodeLists.{nodes_of_unit}
 use Rattle.st_units.specs.SourceTrees.{IsTreeOf}
+use Rattle.tree_order.specs.Order.{NodesInOrder}
 use Rattle.first_form.specs.declared.tree.Unit.{Unit as SourceUnit}
 use Rattle.first_form.specs.declared.tree.SourceTree.{SourceTree}
 use Rattle.first_form.specs.Bare.{bare_unit}
 use Rattle.first_form.specs.FirstForm.{one_of, only_unit, unit_of}
 use Rattle.first_form.specs.Laws.{SoundForm}
 use Rattle.first_form.specs.Nodes.{unit_nodes, nodes_of}
-use Rattle.cycle_analysis.proofs.Lists.{in_cases}
+use Rattle.cycle_analysis.proofs.Lists.{in_cases, later_in}
 use Rattle.station_cli.specs.steps.Parsing.{IsAnalysable}
 use Rattle.station_cli.specs.Report.{IsFormOf}
 use Rattle.station_cli.proofs.Within.{let_through, unit_within}
@@ -25,6 +27,20 @@ use Rattle.station_cli.proofs.Within.{let_through, unit_within}
 abbrev pub StartWithin : Type 0
 StartWithin = (text : List ℕ) (file : SourceFile) → IsTreeOf text file
     → AllByRecursion (λ (node : Node). node.start ≤ length text) (flat_map nodes_of_unit file.units)
+
+all_of : {X : Type 0} (P : X → Type 0) (xs : List X) → ((x : X) → Contains xs x → P x)
+    → AllByRecursion P xs
+all_of P [] h = tt
+all_of P (x ∷ xs) h = (h x (zero, omega arith, refl), all_of P xs (λ y c. h y (later_in x y xs c)))
+
+-- since all nodes stand in it
+pub starts_of_order : NodesInOrder → StartWithin
+starts_of_order law text file is =
+    all_of (λ (node : Node). node.start ≤ length text) (flat_map nodes_of_unit file.units)
+    (λ node c.
+    let w = (law text file is).within node
+    (Contains-append_left (flat_map nodes_of_unit file.units) _ node c) in
+    omega (arith, w.0, w.1))
 
 feeds_are : (text : List ℕ) (file : SourceFile) → IsTreeOf text file → file.feeds ≡ feeds_from 0 text
 feeds_are text file (tokens, cut, is) = ap (λ (f : SourceFile). f.feeds) is.tree_is

@@ -17,6 +17,8 @@ module _ (one_tree : OneTree) where
 
   -- and none where its file is of another form
   pub no_form_of : (text : List ℕ) (file : SourceFile) → IsTreeOf text file
-      → ((tree : SourceTree) → IsFirstForm file tree → ⊥) → (tree : SourceTree) → IsFormOf text tree → ⊥
+      → ((tree : SourceTree) → IsFirstForm file tree → ⊥) → (tree : SourceTree) → IsFormOf text tree
+      → ⊥
   no_form_of text file is none tree t =
-      none tree (subst (λ (f : SourceFile). IsFirstForm f tree) (one_tree text t.file file t.parsed is) t.form)
+      none tree (subst (λ (f : SourceFile). IsFirstForm f tree)
+      (one_tree text t.file file t.parsed is) t.form)

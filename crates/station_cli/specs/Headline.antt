@@ -1,5 +1,6 @@
--- What a report that was put says of the runs of the program: the promise of this product. The code has no part for it; it follows from the
--- report that the text defines and from the theorem over all runs of the analysis. Source: this profile.
+-- What a report that was put says of the runs of the program: the promise of this product. The code
+-- has no part for it; it follows from the report that the text defines and from the theorem over
+-- all runs of the analysis. Source: this profile.
 use Rattle.std.specs.Prelude.{◌≡◌, ℕ, ◌++◌, List, [], ◌∷◌, Some, codes, take, slice_get, ℤ}
 use Rattle.std.specs.List.{Contains}
 use Rattle.iec_tables.specs.declared.kind.Kind.{Kind}
@@ -30,8 +31,8 @@ use Rattle.station_cli.specs.declared.status.Status.TheVariants.{Clean, Open}
 
 -- ---- the program of a text, and what a report says of a run
 
--- A component that a text defines: that of the one program of the file that the text is. (They differ in
--- the order and number of their literals and in how their code lies in memory.)
+-- A component that a text defines: that of the one program of the file that the text is. (They
+-- differ in the order and number of their literals and in how their code lies in memory.)
 pub record IsProgram (text : List ℕ) (component : Component) : Type 0 where
   pub tree : SourceTree
   pub unit : SourceUnit
@@ -41,35 +42,43 @@ pub record IsProgram (text : List ℕ) (component : Component) : Type 0 where
 
 -- the line of that path has the number in its range
 abbrev pub InLine : List RangeLine → List ℕ → ℤ → Type 0
-InLine lines path v = (line : RangeLine) × Contains lines line × (line.name ≡ path) × Holds (Span line.low line.high) v
+InLine lines path v = (line : RangeLine) × Contains lines line × (line.name ≡ path)
+    × Holds (Span line.low line.high) v
 
 -- Each number that a variable holds lies in the range of the variable's line.
 abbrev pub InLines : Component → List RangeLine → State → Type 0
 InLines component lines state =
     (me : ℕ) (task : TaskCode) (s : TaskState) (k : ℕ) (info : CellInfo) (cell : Numbers) (v : ℤ) →
     slice_get component.tasks me ≡ Some task → slice_get state.tasks me ≡ Some s →
-    slice_get task.cells k ≡ Some info → slice_get s.own k ≡ Some cell → Contains cell v → InLine lines info.path v
+    slice_get task.cells k ≡ Some info → slice_get s.own k ≡ Some cell → Contains cell v
+    → InLine lines info.path v
 
--- There is an alarm of that kind at that node, with the value, its size kept in the limit of bounds, in its range.
+-- There is an alarm of that kind at that node, with the value, its size kept in the limit of
+-- bounds, in its range.
 abbrev pub AtAlarm : List (Entry Alarm) → Kind → Site → ℤ → Type 0
 AtAlarm alarms kind site value =
-    (e : Entry Alarm) × Contains alarms e × (e.item.kind ≡ kind) × (e.item.site ≡ site) × Holds (Span e.item.low e.item.high) (kept value)
+    (e : Entry Alarm) × Contains alarms e × (e.item.kind ≡ kind) × (e.item.site ≡ site)
+    × Holds (Span e.item.low e.item.high) (kept value)
 
--- A run has not faulted, or its first fault is at an alarm; up to there each variable stays in its line.
+-- A run has not faulted, or its first fault is at an alarm; up to there each variable stays in its
+-- line.
 abbrev pub IsForetold : Component → Report → Outcome → Type 0
 IsForetold component made (Continues state) = InLines component made.ranges state
-IsForetold component made (Faulty state me kind site value) = InLines component made.ranges state × AtAlarm made.alarms kind site value
+IsForetold component made (Faulty state me kind site value) =
+    InLines component made.ranges state × AtAlarm made.alarms kind site value
 
 -- A run has not faulted, and each variable stays in its line.
 abbrev pub IsFaultless : Component → Report → Outcome → Type 0
 IsFaultless component made (Continues state) = InLines component made.ranges state
 IsFaultless component made (Faulty state me kind site value) = ⊥
 
--- In each state of each run of the program each task has something that it can do, so that no step is missing from a run.
+-- In each state of each run of the program each task has something that it can do, so that no step
+-- is missing from a run.
 abbrev pub NeverWaits : List ℕ → Type 0
 NeverWaits text =
     (component : Component) → IsProgram text component →
-    (moves : List Move) (state : State) → run component moves (start component) ≡ Continues state → NoneWaits component state
+    (moves : List Move) (state : State) → run component moves (start component) ≡ Continues state
+    → NoneWaits component state
 
 -- ---- what was put
 
@@ -79,7 +88,8 @@ pub record Says (old new : PortView) (before bytes words : List ℕ) (count : �
   pub new_bytes : new.sent ≡ Some (before ++ bytes)
   pub begins : take count bytes ≡ words
 
--- The words name a file, the bytes are those of the report on its text, or the first of them, and the text defines a program.
+-- The words name a file, the bytes are those of the report on its text, or the first of them, and
+-- the text defines a program.
 pub record IsOfReport (words : List (List ℕ)) (old : World) (bytes : List ℕ) : Type 0 where
   pub name : List ℕ
   pub text : List ℕ
@@ -92,41 +102,52 @@ pub record IsOfReport (words : List (List ℕ)) (old : World) (bytes : List ℕ)
   pub bytes_are : bytes ≡ take count (text_of made)
   pub defined : IsProgram text program
 
--- No run of the program that the text spells faults, however many steps it takes and whichever task takes each, and each variable stays
--- in its printed range.
+-- No run of the program that the text spells faults, however many steps it takes and whichever task
+-- takes each, and each variable stays in its printed range.
 pub record IsSafe (words : List (List ℕ)) (old : World) (bytes : List ℕ) : Type 0 where
   pub of_report : IsOfReport words old bytes
   pub free : of_report.made.verdict ≡ Free
-  pub faultless : (component : Component) → IsProgram of_report.text component → (moves : List Move) → IsFaultless component of_report.made (run component moves (start component))
+  pub faultless : (component : Component) → IsProgram of_report.text component → (moves : List Move)
+      → IsFaultless component of_report.made (run component moves (start component))
   pub live : NeverWaits of_report.text
 
--- Wherever the bytes that were put say FREE, also in a report that was cut short, the program is safe.
+-- Wherever the bytes that were put say FREE, also in a report that was cut short, the program is
+-- safe.
 abbrev pub FreeIsSafe : List (List ℕ) → World → PortView → PortView → Type 0
-FreeIsSafe words old old_out new_out = (before bytes : List ℕ) → Says old_out new_out before bytes (codes "VERDICT FREE") 12 → IsSafe words old bytes
+FreeIsSafe words old old_out new_out =
+    (before bytes : List ℕ) → Says old_out new_out before bytes (codes "VERDICT FREE") 12
+    → IsSafe words old bytes
 
--- Each fault of a run of the program that the text spells is at an alarm of the report, with its value in the alarm's range, and each
--- variable stays in its printed range up to there.
+-- Each fault of a run of the program that the text spells is at an alarm of the report, with its
+-- value in the alarm's range, and each variable stays in its printed range up to there.
 pub record IsCovered (words : List (List ℕ)) (old : World) (bytes : List ℕ) : Type 0 where
   pub of_report : IsOfReport words old bytes
-  pub foretold : (component : Component) → IsProgram of_report.text component → (moves : List Move) → IsForetold component of_report.made (run component moves (start component))
+  pub foretold : (component : Component) → IsProgram of_report.text component → (moves : List Move)
+      → IsForetold component of_report.made (run component moves (start component))
   pub live : NeverWaits of_report.text
 
 -- Wherever the bytes that were put say ALARMS, the report covers each run.
 abbrev pub AlarmsCover : List (List ℕ) → World → PortView → PortView → Type 0
-AlarmsCover words old old_out new_out = (before bytes : List ℕ) → Says old_out new_out before bytes (codes "VERDICT ALARMS") 14 → IsCovered words old bytes
+AlarmsCover words old old_out new_out =
+    (before bytes : List ℕ) → Says old_out new_out before bytes (codes "VERDICT ALARMS") 14
+    → IsCovered words old bytes
 
 -- ---- what was answered
 
--- The words name a file whose report is FREE, and no run of the program that its text spells faults.
+-- The words name a file whose report is FREE, and no run of the program that its text spells
+-- faults.
 pub record IsReportedSafe (words : List (List ℕ)) (old : World) : Type 0 where
   pub reported : IsReportedAs words old Clean
-  pub faultless : (component : Component) → IsProgram reported.text component → (moves : List Move) → IsFaultless component reported.made (run component moves (start component))
+  pub faultless : (component : Component) → IsProgram reported.text component → (moves : List Move)
+      → IsFaultless component reported.made (run component moves (start component))
   pub live : NeverWaits reported.text
 
--- The words name a file whose report has alarms, and each fault of a run of the program that its text spells is at one of them.
+-- The words name a file whose report has alarms, and each fault of a run of the program that its
+-- text spells is at one of them.
 pub record IsReportedCovered (words : List (List ℕ)) (old : World) : Type 0 where
   pub reported : IsReportedAs words old Open
-  pub foretold : (component : Component) → IsProgram reported.text component → (moves : List Move) → IsForetold component reported.made (run component moves (start component))
+  pub foretold : (component : Component) → IsProgram reported.text component → (moves : List Move)
+      → IsForetold component reported.made (run component moves (start component))
   pub live : NeverWaits reported.text
 
 -- ---- what the definitions say alone
@@ -135,11 +156,13 @@ pub record IsReportedCovered (words : List (List ℕ)) (old : World) : Type 0 wh
 abbrev pub ReportsHold : Type 0
 ReportsHold =
     (name text : List ℕ) (made : Report) → IsReport name text made →
-    (component : Component) → IsProgram text component → (moves : List Move) → IsForetold component made (run component moves (start component))
+    (component : Component) → IsProgram text component → (moves : List Move)
+    → IsForetold component made (run component moves (start component))
 
 -- Where the verdict of the defined report is FREE, no run faults, and no task waits.
 abbrev pub FreeHolds : Type 0
 FreeHolds =
     (name text : List ℕ) (made : Report) → IsReport name text made → made.verdict ≡ Free →
-    ((component : Component) → IsProgram text component → (moves : List Move) → IsFaultless component made (run component moves (start component)))
+    ((component : Component) → IsProgram text component → (moves : List Move)
+    → IsFaultless component made (run component moves (start component)))
     × NeverWaits text

@@ -38,7 +38,8 @@ IsTold log kind site = (i : Interval) × Contains log (Alarmed kind site i)
 -- the hull of the ranges that a pass tells of that kind at that node
 pub record IsHull (log : List Told) (kind : Kind) (site : Site) (range : Interval) : Type 0 where
   pub holds : (i : Interval) → Contains log (Alarmed kind site i) → IsWithin i range
-  pub least : (j : Interval) → ((i : Interval) → Contains log (Alarmed kind site i) → IsWithin i j) → IsWithin range j
+  pub least : (j : Interval) → ((i : Interval) → Contains log (Alarmed kind site i) → IsWithin i j)
+      → IsWithin range j
 
 -- the first name of the path that a statement assigns
 abbrev pub subject : Stmt → List ℕ
@@ -53,7 +54,8 @@ pub record IsUnder (unit : SourceUnit) (alarm : Alarm) : Type 0 where
   pub subject_is : alarm.subject ≡ subject stmt
 
 -- an alarm with its place, of what the pass tells
-pub record IsAlarm (name text : List ℕ) (tree : SourceTree) (unit : SourceUnit) (log : List Told) (entry : Entry Alarm) : Type 0 where
+pub record IsAlarm (name text : List ℕ) (tree : SourceTree) (unit : SourceUnit) (log : List Told)
+    (entry : Entry Alarm) : Type 0 where
   pub told : IsTold log entry.item.kind entry.item.site
   pub range : IsHull log entry.item.kind entry.item.site (Span entry.item.low entry.item.high)
   pub under : IsUnder unit entry.item
@@ -65,7 +67,8 @@ pub record IsAlarm (name text : List ℕ) (tree : SourceTree) (unit : SourceUnit
 -- in one file by node, and at one node by kind
 abbrev pub Precedes : Alarm → Alarm → Type 0
 Precedes a b =
-    (a.site.node.0 < b.site.node.0) ⊎ ((a.site.node ≡ b.site.node) × (kinds.code_of a.kind < kinds.code_of b.kind))
+    (a.site.node.0 < b.site.node.0)
+    ⊎ ((a.site.node ≡ b.site.node) × (kinds.code_of a.kind < kinds.code_of b.kind))
 
 abbrev pub AreOrdered : List (Entry Alarm) → Type 0
 AreOrdered [] = Unit {0}
@@ -73,17 +76,20 @@ AreOrdered (a ∷ []) = Unit {0}
 AreOrdered (a ∷ b ∷ es) = Precedes a.item b.item × AreOrdered (b ∷ es)
 
 -- These are the alarms: one a node and kind that the pass tells, and no others.
-pub record AreAlarms (name text : List ℕ) (tree : SourceTree) (unit : SourceUnit) (log : List Told) (entries : List (Entry Alarm)) : Type 0 where
+pub record AreAlarms (name text : List ℕ) (tree : SourceTree) (unit : SourceUnit) (log : List Told)
+    (entries : List (Entry Alarm)) : Type 0 where
   pub ordered : AreOrdered entries
   pub each : (e : Entry Alarm) → Contains entries e → IsAlarm name text tree unit log e
-  pub all : (kind : Kind) (site : Site) → IsTold log kind site → (e : Entry Alarm) × Contains entries e × (e.item.kind ≡ kind) × (e.item.site ≡ site)
+  pub all : (kind : Kind) (site : Site) → IsTold log kind site → (e : Entry Alarm)
+      × Contains entries e × (e.item.kind ≡ kind) × (e.item.site ≡ site)
 
 -- ---- ranges
 
 -- the lines of the cells, in their order
 pub record AreRanges (task : TaskCode) (table : List Part) (lines : List RangeLine) : Type 0 where
   pub names : map (λ line. line.name) lines ≡ map (λ cell. cell.path) task.cells
-  pub ranges : (k : ℕ) (line : RangeLine) → slice_get lines k ≡ Some line → own_range task (part_at table 0) k ≡ Span line.low line.high
+  pub ranges : (k : ℕ) (line : RangeLine) → slice_get lines k ≡ Some line
+      → own_range task (part_at table 0) k ≡ Span line.low line.high
 
 -- ---- the report
 
@@ -125,11 +131,18 @@ pub record IsRefusal (name text : List ℕ) (report : Report) : Type 0 where
   pub column : ℕ
   pub fault : IsFaultOf text code at
   pub position : IsPosition text at line column
-  pub verdict_is : report.verdict ≡ verdict.Refused (record { file = name; line = line; column = column; code = code })
+  pub verdict_is : report.verdict ≡ verdict.Refused (record {
+    file = name;
+    line = line;
+    column =
+        column;
+    code = code;
+  })
   pub counted : IsCounted report
   pub waived : report.waived_count ≡ 0
 
--- The report on a text that isn't analysed: it is a file, but none of the form whose analysis is built.
+-- The report on a text that isn't analysed: it is a file, but none of the form whose analysis is
+-- built.
 pub record IsUnbuilt (text : List ℕ) (report : Report) : Type 0 where
   pub file : SourceFile
   pub parsed : IsTreeOf text file
@@ -140,4 +153,5 @@ pub record IsUnbuilt (text : List ℕ) (report : Report) : Type 0 where
 
 -- The report on a file of that name and text.
 abbrev pub IsReport : List ℕ → List ℕ → Report → Type 0
-IsReport name text report = IsAnalysed name text report ⊎ (IsRefusal name text report ⊎ IsUnbuilt text report)
+IsReport name text report =
+    IsAnalysed name text report ⊎ (IsRefusal name text report ⊎ IsUnbuilt text report)

@@ -3,10 +3,10 @@ ghost use Rattle.std.specs.Prelude.{◌≡◌};
 
 use iec_tables::elem::Elem;
 use st_tree::{
-    Argument, Branch, Case, Cell, CellInfo, Code, Component, Expr, FieldInit, Identifier, Init, Item,
-    Node, NodeNo, Number, Operation, Operator, Part, Site, TaskCode,
+    Argument, Branch, Case, Cell, CellInfo, Code, Component, Expr, FieldInit, FilePart, Identifier,
+    Init, Item, Node, NodeNo, Number, Operation, Operator, Part, Site, TaskCode, Types,
 };
-use st_units::{parse_file, parse_parts};
+use st_units::parse_file;
 use station_ports::outside::NoMemory;
 use station_ports::steps::Steps;
 use station_ports::texts::Name;
@@ -36,20 +36,14 @@ const TEXT: &str = "TYPE T : INT (0 .. 9) := 1; E : (A, B); \
     RESOURCE r ON cpu TASK k (INTERVAL := T#1s, PRIORITY := 1); PROGRAM p WITH k : P; END_RESOURCE \
     PROGRAM q : P; END_CONFIGURATION (* end *)\n";
 
-/// Whether the text has a tree, and its parts and its tree are copied.
+/// Whether the text has a tree, and it is copied.
 fn are_copied<L: Ledger>(rt: &HostRuntime, blank: Blank, text: &[u8]) -> bool
     requires name { blank.name ≡ L.name }
     requires parts { blank.parts ≡ L.parts }
     requires two { blank.parts ≡ 2 }
 {
     let mut steps = Steps::<L>::new(rt, blank);
-    let parts = parse_parts(rt.alloc(), text, &mut steps).is_ok_and(|parts| {
-        parts.copy(rt.alloc()).is_ok()
-    });
-    let tree = parse_file(rt.alloc(), text, &mut steps).is_ok_and(|tree| {
-        tree.copy(rt.alloc()).is_ok()
-    });
-    parts && tree
+    parse_file(rt.alloc(), text, &mut steps).is_ok_and(|tree| tree.copy(rt.alloc()).is_ok())
 }
 
 #[test]
@@ -101,6 +95,13 @@ fn branch(alloc: Global) -> Result<Branch, NoMemory> {
     })
 }
 
+fn file_part(alloc: Global) -> FilePart {
+    FilePart::Types(Types {
+        node: NODE,
+        decls: Items::new(alloc),
+    })
+}
+
 fn case(alloc: Global) -> Case {
     Case {
         labels: Items::new(alloc),
@@ -128,6 +129,7 @@ fn parts_of_trees_are_copied(rt: HostRuntime) {
     assert!(rt; is_copied(alloc, argument(alloc)));
     assert!(rt; is_copied(alloc, branch(alloc)));
     assert!(rt; is_copied(alloc, Ok(case(alloc))));
+    assert!(rt; is_copied(alloc, Ok(file_part(alloc))));
     assert!(rt; is_copied(alloc, item(alloc)));
     assert!(rt; is_copied(alloc, field(alloc)));
 }
@@ -200,7 +202,9 @@ fn form_of(code: &Code) -> (usize, bool) {
 #[test]
 fn code_is_copied(rt: HostRuntime) {
     let alloc = rt.alloc();
-    let form = sum(alloc).and_then(|code| copy_code(alloc, &code)).map(|code| form_of(&code));
+    let form = sum(alloc)
+        .and_then(|code| copy_code(alloc, &code))
+        .map(|code| form_of(&code));
     assert_eq!(rt; form, Ok((4, true)));
     let task = task(alloc).and_then(|task| copy_task_code(alloc, &task));
     assert!(rt; task.is_ok_and(|task| task.cells.len() == 1));

@@ -475,7 +475,7 @@ const NESTINGS: [Nesting; 58] = [
     Nesting {
         before: "PROGRAM P INITIAL_STEP S: END_STEP ACTION A:\n",
         part: "IF a THEN\n",
-        closing: "END_IF",
+        closing: "END_IF\n",
         after: " END_ACTION END_PROGRAM",
         rows: &[
             (256, "", ""),

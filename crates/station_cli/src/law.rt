@@ -3,7 +3,8 @@
 ghost use Rattle.station_cli.specs.Headline.{ReportsHold, FreeHolds};
 ghost use Rattle.station_cli.specs.OneReport.{OneReport, OneCourse};
 
-/// A file has one report at most: its name and its bytes determine the verdict, each alarm, each range and the counts.
+/// A file has one report at most: its name and its bytes determine the verdict, each alarm, each
+/// range and the counts.
 pub fn one_report()
     ensures { OneReport }
 {
@@ -11,8 +12,9 @@ pub fn one_report()
     first_form::form_laws();
 }
 
-/// The report that is defined for a text holds of each run of the program that the text spells; where it is FREE, no run faults and no
-/// task waits. This is said of the report as data, whatever is written of it and where.
+/// The report that is defined for a text holds of each run of the program that the text spells;
+/// where it is FREE, no run faults and no task waits. This is said of the report as data, whatever
+/// is written of it and where.
 pub fn reports_hold()
     ensures all { ReportsHold }
     ensures free { FreeHolds }
@@ -22,7 +24,8 @@ pub fn reports_hold()
     cycle_analysis::headline();
 }
 
-/// Where the files tell, the words and the contents determine the status and the bytes of a call that comes to its end.
+/// Where the files tell, the words and the contents determine the status and the bytes of a call
+/// that comes to its end.
 pub fn one_course()
     ensures { OneCourse }
 {

@@ -4,6 +4,8 @@
 ghost use Rattle.std.specs.Prelude.{◌≡◌};
 
 #[cfg(test)]
+mod copy_tests;
+#[cfg(test)]
 mod cut_tests;
 #[cfg(test)]
 mod depth_tests;

@@ -29,6 +29,7 @@ use std::alloc::{AllocError, Global};
 use std::sync::ledger::Ledger;
 use task_config::plan;
 use tree_items::Items;
+use tree_order::order_laws;
 
 /// The report on a file of that name.
 pub(crate) fn report_on<L: Ledger>(
@@ -83,10 +84,12 @@ fn tree_of<L: Ledger>(
 
 /// The tree of the form whose analysis is built, of the tree of a text.
 fn first_tree(alloc: Global, file: &SourceFile) -> Result<Parsed, NoMemory>
-    ensures { IfOk result (λ parsed. (text : List ℕ) → IsTreeOf text file.now → length text ≤ 1048576 →
+    ensures { IfOk result (λ parsed. (text : List ℕ) → IsTreeOf text file.now
+        → length text ≤ 1048576 →
         IsParsed text parsed) }
 {
     form_laws();
+    order_laws();
     match first_form(alloc, file)? {
         Some(tree) => Ok(Parsed::Tree(tree)),
         None => Ok(Parsed::Other),
@@ -110,7 +113,8 @@ fn not_built(alloc: Global) -> Report
 
 /// The report on a file that is refused for a fault at a byte.
 fn refused(alloc: Global, name: &str, text: &FileText, fault: Fault) -> Result<Report, AllocError>
-    ensures { IsFaultOf text.now fault.code fault.at → fault.at ≤ length text.now → IfOk result (λ report. IsRefusal name.now text.now report) }
+    ensures { IsFaultOf text.now fault.code fault.at → fault.at ≤ length text.now
+        → IfOk result (λ report. IsRefusal name.now text.now report) }
 {
     let bytes = text.bytes();
     let position = line_of(bytes, fault.at.min(bytes.len()));
@@ -136,7 +140,8 @@ fn analysed<L: Ledger>(
     steps: &mut Steps<L>,
 ) -> Result<Report, NoMemory>
     requires { length tree.now.units ≡ 1 }
-    ensures { IfOk result (λ report. (text : List ℕ) → IsAnalysable text tree.now → IsReportOf name.now text tree.now report) }
+    ensures { IfOk result (λ report. (text : List ℕ) → IsAnalysable text tree.now
+        → IsReportOf name.now text tree.now report) }
 {
     let component = plan(alloc, tree)?;
     let grid = Grid::of(alloc, component.literals.as_slice())?;
@@ -177,7 +182,8 @@ fn alarm_entries(
     hits: &[Hit],
 ) -> Result<Items<Entry<Alarm>>, AllocError>
     ensures { IfOk result (λ entries. (text : List ℕ) (is : IsAnalysable text tree.now) →
-        AllByRecursion (λ hit. IsInBody is.unit hit.site.node) hits.now → AreEntriesOf name.now text tree.now is.unit hits.now entries) }
+        AllByRecursion (λ hit. IsInBody is.unit hit.site.node) hits.now → AreEntriesOf name.now text
+        tree.now is.unit hits.now entries) }
 {
     let mut entries = Items::new(alloc);
     for hit in hits {
@@ -193,7 +199,8 @@ fn entry_of(
     tree: &SourceTree,
     hit: Hit,
 ) -> Result<Entry<Alarm>, AllocError>
-    ensures { IfOk result (λ entry. (text : List ℕ) (is : IsAnalysable text tree.now) → IsInBody is.unit hit.site.node →
+    ensures { IfOk result (λ entry. (text : List ℕ) (is : IsAnalysable text tree.now)
+        → IsInBody is.unit hit.site.node →
         IsEntryOf name.now text tree.now is.unit hit entry) }
 {
     let span = place(tree, hit.site.node);
@@ -208,7 +215,8 @@ fn entry_of(
 /// An alarm under its unit and the first name of the path that its statement assigns.
 fn alarm_of(alloc: Global, tree: &SourceTree, hit: Hit) -> Result<Alarm, AllocError>
     ensures alarm { IfOk result (λ alarm. IsAlarmOf hit alarm) }
-    ensures under { IfOk result (λ alarm. IsNumbered tree.now → (unit : SourceUnit) → Contains tree.now.units unit → IsInBody unit hit.site.node →
+    ensures under { IfOk result (λ alarm. IsNumbered tree.now → (unit : SourceUnit) → Contains tree.now.units
+        unit → IsInBody unit hit.site.node →
         IsUnder unit alarm) }
 {
     let (unit, subject) = unit_and_subject(tree, hit.site.node);
@@ -224,7 +232,8 @@ fn alarm_of(alloc: Global, tree: &SourceTree, hit: Hit) -> Result<Alarm, AllocEr
 
 /// The name of the unit and the first name of the assigned path of the statement that holds a node.
 fn unit_and_subject(tree: &SourceTree, node: NodeNo) -> (&[u8], &[u8])
-    ensures { IsNumbered tree.now → (unit : SourceUnit) → Contains tree.now.units unit → (in_body : IsInBody unit node) →
+    ensures { IsNumbered tree.now → (unit : SourceUnit) → Contains tree.now.units unit
+        → (in_body : IsInBody unit node) →
         (result.0.now ≡ unit.name.name) × (result.1.now ≡ subject in_body.stmt) }
 {
     match statement_of(tree, node) {
@@ -248,7 +257,8 @@ fn range_lines(
     component: &Component,
     solution: &Solution,
 ) -> Result<Items<RangeLine>, AllocError>
-    ensures { IfOk result (λ lines. lines ≡ lines_of component.now.shared solution.now.ranges.shared.items
+    ensures { IfOk result
+        (λ lines. lines ≡ lines_of component.now.shared solution.now.ranges.shared.items
         ++ flat_map (λ task. lines_of task.cells solution.now.ranges.own.items) component.now.tasks) }
 {
     let mut lines = Items::new(alloc);

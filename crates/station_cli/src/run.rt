@@ -39,33 +39,49 @@ pub fn run<F: Files, S: Sink, L: Ledger>(
     steps: &mut Steps<L>,
 ) -> Status
     // What is written and answered, for what cause, and what stays.
-    ensures run { IsRun (map string_bytes words.now) (record { files = F.view files.old }) (record { files = F.view files.new })
+    ensures run { IsRun (map string_bytes words.now) (record { files = F.view files.old })
+        (record { files = F.view files.new })
         (S.view out.old) (S.view out.new) result }
 
     // Nothing is left out where nothing failed and there was memory.
-    ensures complete { Completes (map string_bytes words.now) (record { files = F.view files.old }) (record { files = F.view files.new })
+    ensures complete { Completes (map string_bytes words.now) (record { files = F.view files.old })
+        (record { files = F.view files.new })
         (S.view out.old) (S.view out.new) result }
 
-    // Wherever FREE was put, no run of the program that the file's bytes spell faults, and each variable stays in its printed range;
-    // wherever ALARMS was put, each fault of a run is at an alarm, with its value in the alarm's range. This holds also of a report that
-    // was cut short, and whatever else failed in the call.
-    ensures free { FreeIsSafe (map string_bytes words.now) (record { files = F.view files.old }) (S.view out.old) (S.view out.new) }
-    ensures alarms { AlarmsCover (map string_bytes words.now) (record { files = F.view files.old }) (S.view out.old) (S.view out.new) }
+    // Wherever FREE was put, no run of the program that the file's bytes spell faults, and each
+    // variable stays in its printed range; wherever ALARMS was put, each fault of a run is at an
+    // alarm, with its value in the alarm's range. This holds also of a report that was cut short,
+    // and whatever else failed in the call.
+    ensures free { FreeIsSafe (map string_bytes words.now) (record { files = F.view files.old })
+        (S.view out.old) (S.view out.new) }
+    ensures alarms { AlarmsCover (map string_bytes words.now) (record { files = F.view files.old })
+        (S.view out.old) (S.view out.new) }
 
     // Each status by its cause.
-    ensures clean { result ≡ Status.Clean → IsReportedSafe (map string_bytes words.now) (record { files = F.view files.old }) }
-    ensures open { result ≡ Status.Open → IsReportedCovered (map string_bytes words.now) (record { files = F.view files.old }) }
-    ensures refused { result ≡ Status.Refused → IsReportedAs (map string_bytes words.now) (record { files = F.view files.old }) Status.Refused }
-    ensures not_analysed { result ≡ Status.NotAnalysed → IsReportedAs (map string_bytes words.now) (record { files = F.view files.old }) Status.NotAnalysed }
-    ensures reported { (status : Status) → IsToldReported (map string_bytes words.now) (record { files = F.view files.old }) status →
-        EndsRead (record { files = F.view files.old }) (record { files = F.view files.new }) (S.view out.old) (S.view out.new) status result }
+    ensures clean { result ≡ Status.Clean → IsReportedSafe (map string_bytes words.now)
+        (record { files = F.view files.old }) }
+    ensures open { result ≡ Status.Open → IsReportedCovered (map string_bytes words.now)
+        (record { files = F.view files.old }) }
+    ensures refused { result ≡ Status.Refused → IsReportedAs (map string_bytes words.now)
+        (record { files = F.view files.old }) Status.Refused }
+    ensures not_analysed { result ≡ Status.NotAnalysed → IsReportedAs (map string_bytes words.now)
+        (record { files = F.view files.old }) Status.NotAnalysed }
+    ensures reported { (status : Status) → IsToldReported (map string_bytes words.now)
+        (record { files = F.view files.old }) status →
+        EndsRead (record { files = F.view files.old }) (record { files = F.view files.new })
+        (S.view out.old) (S.view out.new) status result }
     ensures usage { result ≡ Status.Usage → command_of (map string_bytes words.now) ≡ None }
-    ensures misused { command_of (map string_bytes words.now) ≡ None → Ends Status.Usage (S.view out.old) (S.view out.new) result }
-    ensures too_long { result ≡ Status.TooLong → IsAboveLimit (map string_bytes words.now) (record { files = F.view files.old }) }
+    ensures misused { command_of (map string_bytes words.now) ≡ None
+        → Ends Status.Usage (S.view out.old) (S.view out.new) result }
+    ensures too_long { result ≡ Status.TooLong → IsAboveLimit (map string_bytes words.now)
+        (record { files = F.view files.old }) }
     ensures above { IsToldAbove (map string_bytes words.now) (record { files = F.view files.old }) →
-        EndsRead (record { files = F.view files.old }) (record { files = F.view files.new }) (S.view out.old) (S.view out.new) Status.TooLong result }
-    ensures read_fault { result ≡ Status.ReadFault → Rose (F.view files.old).faults (F.view files.new).faults }
-    ensures write_fault { result ≡ Status.WriteFault → Rose (S.view out.old).faults (S.view out.new).faults }
+        EndsRead (record { files = F.view files.old }) (record { files = F.view files.new })
+        (S.view out.old) (S.view out.new) Status.TooLong result }
+    ensures read_fault { result ≡ Status.ReadFault → Rose (F.view files.old).faults
+        (F.view files.new).faults }
+    ensures write_fault { result ≡ Status.WriteFault → Rose (S.view out.old).faults
+        (S.view out.new).faults }
 {
     text_laws();
     form_laws();
@@ -79,7 +95,8 @@ pub fn run<F: Files, S: Sink, L: Ledger>(
 
 /// Writes the line of status 9, NoMemory; a refusal of it leaves the status.
 pub fn write_no_memory<S: Sink>(out: &mut S) -> Status
-    ensures { IsWritten (S.view out.old) (S.view out.new) Status.NoMemory (codes "ERROR memory\n") result }
+    ensures { IsWritten (S.view out.old) (S.view out.new) Status.NoMemory (codes "ERROR memory\n")
+        result }
 {
     write_line(out, Status::NoMemory, b"ERROR memory\n")
 }
@@ -92,8 +109,10 @@ pub fn run_sure<L: Ledger>(
     out: &mut SureSink,
     steps: &mut Steps<L>,
 ) -> Status
-    ensures run { IsRun (map string_bytes words.now) (record { files = ⟦<SureFiles as Files>⟧.view files.old })
-        (record { files = ⟦<SureFiles as Files>⟧.view files.new }) (⟦<SureSink as Port>⟧.view out.old) (⟦<SureSink as Port>⟧.view out.new) result }
+    ensures run { IsRun (map string_bytes words.now)
+        (record { files = ⟦<SureFiles as Files>⟧.view files.old })
+        (record { files = ⟦<SureFiles as Files>⟧.view files.new })
+        (⟦<SureSink as Port>⟧.view out.old) (⟦<SureSink as Port>⟧.view out.new) result }
     ensures read { result ≡ Status.ReadFault → ⊥ }
     ensures write { result ≡ Status.WriteFault → ⊥ }
 {
@@ -108,7 +127,8 @@ fn work<F: Files, L: Ledger>(
     steps: &mut Steps<L>,
 ) -> Result<Reply, NoMemory>
     ensures work { IfOk result (λ reply. IsWork (command_of (map string_bytes words.now))
-        (record { files = F.view files.old }) (record { files = F.view files.new }) reply.status reply.text.items) }
+        (record { files = F.view files.old }) (record { files = F.view files.new }) reply.status
+        reply.text.items) }
     ensures same { (F.view files.new).contents ≡ (F.view files.old).contents }
     ensures calls { AtMostOnce (F.view files.old) (F.view files.new) }
 {
@@ -133,7 +153,8 @@ fn check_file<F: Files, L: Ledger>(
     steps: &mut Steps<L>,
 ) -> Result<Reply, NoMemory>
     ensures work { IfOk result (λ reply. IsWork (Some (check name.now))
-        (record { files = F.view files.old }) (record { files = F.view files.new }) reply.status reply.text.items) }
+        (record { files = F.view files.old }) (record { files = F.view files.new }) reply.status
+        reply.text.items) }
     ensures same { (F.view files.new).contents ≡ (F.view files.old).contents }
     ensures calls { AtMostOnce (F.view files.old) (F.view files.new) }
 {

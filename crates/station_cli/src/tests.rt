@@ -121,7 +121,7 @@ struct Row {
 }
 
 /// Texts of the first form.
-const ANALYSED: [Row; 15] = [
+const ANALYSED: [Row; 16] = [
     Row {
         text: "(* x *) PROGRAM P // a\n{b} END_PROGRAM /* /* */ */",
         status: Status::Clean,
@@ -151,6 +151,12 @@ const ANALYSED: [Row; 15] = [
         text: "PROGRAM P VAR END_VAR END_PROGRAM",
         status: Status::Clean,
         output: "VERDICT FREE\nEND open 0 waived 0\n",
+    },
+    // Empty statements leave nothing in the tree.
+    Row {
+        text: "PROGRAM P VAR a : INT; END_VAR ; a := 1;; (* x *) ; END_PROGRAM",
+        status: Status::Clean,
+        output: "VERDICT FREE\nRANGE MAIN.A 0..1\nEND open 0 waived 0\n",
     },
     // The outer sum is numbered first, and so is its alarm.
     Row {
@@ -233,15 +239,16 @@ const NOT_ANALYSED: [&str; 24] = [
     "PROGRAM P VAR a : INT; END_VAR a := a * 2; END_PROGRAM",
     "PROGRAM P VAR a : INT := 1; END_VAR END_PROGRAM",
     "PROGRAM P VAR CONSTANT END_VAR END_PROGRAM",
-    // Empty statements.
-    "PROGRAM P; END_PROGRAM",
-    "PROGRAM P (* x *) ; END_PROGRAM",
-    "PROGRAM P VAR a : INT; END_VAR a := 1;; END_PROGRAM",
+    // Parentheses.
+    "PROGRAM P VAR a : INT; END_VAR a := (1) - 2; END_PROGRAM",
+    "PROGRAM P VAR a : INT; END_VAR a := 1 - (2 - 3); END_PROGRAM",
+    // A chart.
+    "PROGRAM P INITIAL_STEP s : END_STEP END_PROGRAM",
     "FUNCTION F : INT END_FUNCTION",
 ];
 
 /// Texts that are refused, and where.
-const REFUSED: [(&str, &str, &str); 33] = [
+const REFUSED: [(&str, &str, &str); 32] = [
     ("(* a (* b *)", "1:1", "3 OpenComment"),
     ("PROGRAM IF END_PROGRAM", "1:9", "6 Grammar"),
     ("PROGRAM P", "1:10", "6 Grammar"),
@@ -332,12 +339,6 @@ const REFUSED: [(&str, &str, &str); 33] = [
         "PROGRAM P\n\n  (* (* *) END_PROGRAM",
         "3:3",
         "3 OpenComment",
-    ),
-    // Forms of a body that aren't built.
-    (
-        "PROGRAM P INITIAL_STEP s : END_STEP END_PROGRAM",
-        "1:11",
-        "6 Grammar",
     ),
     ("PROGRAM P ACTION a : END_ACTION", "1:11", "6 Grammar"),
     ("PROGRAM P ; STEP s : END_STEP", "1:13", "6 Grammar"),

@@ -2,16 +2,14 @@
 ghost use Rattle.std.specs.Prelude.{◌≡◌};
 
 use iec_tables::fault::FaultCode;
-use st_expr::{ParseFault as FrontFault, parse_expression, parse_statements};
 use st_lexer::{LexFault, tokens};
-use st_tree::{BinaryOperator, Expr, FilePart, SourceTree, Stmt, Unit};
-use st_units::{ParseFault, parse_file, parse_parts};
+use st_tree::{BinaryOperator, Body, Expr, SourceTree, Stmt, Unit};
+use st_units::{ParseFault, expression, parse_file, sfc_body, statements};
 use station_ports::steps::Steps;
 use std::alloc::Global;
 use std::marker::Brand;
 use std::sync::ledger::{Blank, Ledger};
-use tree_copies::{Copied, Counting, Starts, number_parts};
-use tree_items::Items;
+use tree_copies::Copied;
 
 /// An operator between two operands, with its number, its first byte and the byte after its last.
 fn binary(tree: &Expr) -> Option<(BinaryOperator, u32, usize, usize)> {
@@ -42,7 +40,7 @@ fn grouped(
     ),
 > {
     let tokens = tokens(alloc, text.as_bytes()).ok()?;
-    let (tree, behind) = parse_expression(alloc, &tokens, 0, 0).ok()?;
+    let (tree, behind) = expression(alloc, &tokens, 0, 0).ok()?;
     let inner = match left_of(&tree) {
         Some(left) => binary(left),
         None => None,
@@ -74,8 +72,40 @@ fn operators_group_to_the_left(rt: HostRuntime) {
 /// How many statements a text begins with, and the number of the token behind.
 fn counted(alloc: Global, text: &str) -> Option<(usize, usize)> {
     let tokens = tokens(alloc, text.as_bytes()).ok()?;
-    let (statements, behind) = parse_statements(alloc, &tokens, 0).ok()?;
-    Some((statements.len(), behind))
+    let (found, behind) = statements(alloc, &tokens, 0).ok()?;
+    Some((found.len(), behind))
+}
+
+/// How many parts a chart has behind its initial step with which a text begins, the number and the last byte of its node, and the number of
+/// the token behind.
+fn charted(alloc: Global, text: &str) -> Option<(usize, u32, usize, usize)> {
+    let tokens = tokens(alloc, text.as_bytes()).ok()?;
+    let (chart, behind) = sfc_body(alloc, &tokens, 0).ok()?;
+    Some((
+        chart.parts.len(),
+        chart.node.number.0,
+        chart.node.end,
+        behind,
+    ))
+}
+
+#[test]
+fn charts_end_where_they_do(rt: HostRuntime) {
+    let alloc = rt.alloc();
+    assert_eq!(rt;
+        charted(
+            alloc,
+            "INITIAL_STEP S: A(N); END_STEP (* x *) STEP T: END_STEP END_PROGRAM"
+        ),
+        Some((1, 0, 55, 14))
+    );
+    assert_eq!(rt;
+        charted(alloc, "INITIAL_STEP S: END_STEP a"),
+        Some((0, 0, 24, 4))
+    );
+    assert_eq!(rt; charted(alloc, "INITIAL_STEP S: END_STEP STEP"), None);
+    assert_eq!(rt; charted(alloc, "STEP S: END_STEP"), None);
+    assert_eq!(rt; charted(alloc, ""), None);
 }
 
 #[test]
@@ -179,10 +209,10 @@ fn read_front(alloc: Global, front: &Front) -> Option<Result<usize, (FaultCode, 
     if front.from > tokens.list.len() || front.outer > 256 {
         return None;
     }
-    match parse_expression(alloc, &tokens, front.from, front.outer) {
+    match expression(alloc, &tokens, front.from, front.outer) {
         Ok((_, behind)) => Some(Ok(behind)),
-        Err(FrontFault::At { code, at }) => Some(Err((code, at))),
-        Err(FrontFault::NoMemory) => None,
+        Err(ParseFault::At { code, at }) => Some(Err((code, at))),
+        Err(ParseFault::Lex(_) | ParseFault::NoMemory) => None,
     }
 }
 
@@ -202,29 +232,11 @@ fn fronts_of_token_lists(rt: HostRuntime) {
 
 const FILE: &str = "(* c *) PROGRAM P // d\nVAR a : INT; END_VAR a := 1; {x} END_PROGRAM\n(* e *)";
 
-/// What `parse_file` gave, the parse steps that it counted, and whether no node of the text's parts begins before one with a lower number.
+/// What `parse_file` gave, and the parse steps that it counted.
 #[derive(Drop)]
 struct Answer {
     result: Result<SourceTree, ParseFault>,
     steps: u64,
-    is_rising: bool,
-}
-
-fn is_rising(places: &[usize]) -> bool {
-    let mut last = 0;
-    for place in places {
-        if *place < last {
-            return false;
-        }
-        last = *place;
-    }
-    true
-}
-
-/// Whether the nodes of parts begin in the order of their numbers.
-fn starts_rise(alloc: Global, parts: &Items<FilePart>) -> bool {
-    let mut counting = Counting::new(alloc, Starts::of(&[]));
-    number_parts(alloc, parts, &mut counting).is_ok() && is_rising(counting.starts.as_slice())
 }
 
 fn parsed<L: Ledger>(rt: &HostRuntime, blank: Blank, text: &[u8]) -> Answer
@@ -234,15 +246,9 @@ fn parsed<L: Ledger>(rt: &HostRuntime, blank: Blank, text: &[u8]) -> Answer
 {
     let mut steps = Steps::<L>::new(rt, blank);
     let result = parse_file(rt.alloc(), text, &mut steps);
-    let counted = steps.parsed();
-    let is_rising = match parse_parts(rt.alloc(), text, &mut steps) {
-        Ok(parts) => starts_rise(rt.alloc(), &parts),
-        Err(_) => true,
-    };
     Answer {
         result,
-        steps: counted,
-        is_rising,
+        steps: steps.parsed(),
     }
 }
 
@@ -261,17 +267,19 @@ fn is_taken(alloc: Global, answer: &Result<SourceTree, ParseFault>, fault: &str)
     }
 }
 
-/// Whether a text has a tree that can be copied, with its nodes numbered in the order of their first bytes, or is refused for this fault, with so
-/// many parse steps.
+/// Whether a text has a tree that can be copied, or is refused for this fault, with so many parse steps.
 pub(crate) fn is_tree_of(rt: &HostRuntime, text: &str, fault: &str, steps: u64) -> bool {
     let found = parsed_text(rt, text);
-    found.steps == steps && found.is_rising && is_taken(rt.alloc(), &found.result, fault)
+    found.steps == steps && is_taken(rt.alloc(), &found.result, fault)
 }
 
 /// The numbers of a unit, of its name, of its first section and of its first statement, if that is an assignment.
 fn numbers_of(unit: &Unit) -> Option<(u32, u32, u32, u32)> {
     let section = unit.sections.get(0)?;
-    match unit.body.get(0)? {
+    let Body::Statements(body) = &unit.body else {
+        return None;
+    };
+    match body.get(0)? {
         Stmt::Assign(node, _, _) => Some((
             unit.node.number.0,
             unit.name.node.number.0,

@@ -1,8 +1,6 @@
 // The values of numbers, typed numbers, times and addresses, worked out by hand; and texts that have none.
 use iec_tables::elem::Elem;
-use st_lexer::{
-    Area, Width, address_value, number_value, time_value, typed_value, with_sign,
-};
+use st_lexer::{Area, Width, address_value, number_value, time_value, typed_value, with_sign};
 
 const NUMBERS: [(&str, Option<u128>); 24] = [
     ("0", Some(0)),
@@ -76,10 +74,7 @@ const TIMES: [(&str, Option<i64>); 26] = [
     ("T#1.000ms", Some(1)),
     ("T#2.25d", Some(194_400_000)),
     ("T#9223372036854775807ms", Some(9_223_372_036_854_775_807)),
-    (
-        "T#-9223372036854775808ms",
-        Some(-9_223_372_036_854_775_808),
-    ),
+    ("T#-9223372036854775808ms", Some(-9_223_372_036_854_775_808)),
     ("T#9223372036854775808ms", None),
     ("T#0.0001s", None),
     ("T#1s_2h", None),

@@ -6,10 +6,10 @@ ghost use Rattle.task_config.specs.Written.{place_in, kept_value, written_cell, 
 
 use first_form::{Expr, Literal, Path, Stmt};
 use iec_tables::elem::Elem;
-use tree_items::Items;
 use st_tree::{Cell, Code, Number, Operation, Site};
 use std::alloc::{AllocError, Global};
 use std::collections::BTreeMap;
+use tree_items::Items;
 
 /// The place of the cell of each variable, by its name.
 pub(crate) type Cells<'t> = BTreeMap<&'t [u8], usize>;

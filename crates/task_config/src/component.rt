@@ -11,12 +11,12 @@ ghost use Rattle.task_config.specs.Written.{place_in, place_among, with_place, w
 
 use crate::code::{Cells, body_code, collect_literals};
 use first_form::{Decl, Identifier, Section, SourceTree, Spec, Unit};
-use tree_items::Items;
 use st_tree::{CellInfo, Component, TaskCode};
 use station_ports::outside::NoMemory;
 use station_ports::texts::Name;
 use std::alloc::{AllocError, Global};
 use std::collections::BTreeMap;
+use tree_items::Items;
 
 /// The component of a file of the first form. Its one program is run by the task MAIN; a variable starts at 0.
 pub fn plan(alloc: Global, tree: &SourceTree) -> Result<Component, NoMemory>

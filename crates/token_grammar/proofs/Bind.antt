@@ -4,7 +4,7 @@ use Rattle.std.proofs.lemmas.Bool.{ltb-false}
 use Rattle.std.proofs.lemmas.List.{append_cancel_right}
 use Rattle.token_grammar.specs.Texts.{Lexeme}
 use Rattle.token_grammar.specs.declared.fault.ParseError.TheVariants.{TooDeep}
-use Rattle.token_grammar.specs.Input.{Input, Outcome, Parser, and_then}
+use Rattle.token_grammar.specs.steps.Parsers.{Input, Outcome, Parser, and_then}
 use Rattle.token_grammar.specs.Grammar.{Word, Rule, lexemes_of, Within, ◌>>=◌, max_depth}
 use Rattle.token_grammar.proofs.Laws.{input, ends, Read, Told, gate, Same, Cut, at_end, cut_err, Some_, Exact, lexemes_of-two, Within-append, ends-append, Reason-append}
 

@@ -5,7 +5,7 @@ use Rattle.std.proofs.lemmas.List.{append-nil}
 use Rattle.token_grammar.specs.declared.token.TokenKind.{TokenKind}
 use Rattle.token_grammar.specs.Texts.{Lexeme}
 use Rattle.token_grammar.specs.Kinds.{is_kind}
-use Rattle.token_grammar.specs.Input.{Parser, and_then, pure, take_as, choose, repeated, sees_in, scoped as back_after, deeper as deeper_of, node as node_of}
+use Rattle.token_grammar.specs.steps.Parsers.{Parser, and_then, pure, take_as, choose, repeated, sees_in, scoped as back_after, deeper as deeper_of, node as node_of}
 use Rattle.token_grammar.specs.Grammar.{Word, Rule, lexemes_of, Within, ◌>>=◌, ◌or◌, give, token_as, scoped, deeper, node, many, times, max_depth}
 use Rattle.token_grammar.proofs.Laws.{Exact, Some_, lexemes_of-two}
 use Rattle.token_grammar.proofs.OneToken.{exact_token}

@@ -6,8 +6,8 @@ use Rattle.token_grammar.specs.declared.token.Token.{Token}
 use Rattle.token_grammar.specs.declared.fault.ParseError.{ParseError}
 use Rattle.token_grammar.specs.declared.fault.ParseError.TheVariants as errors
 use Rattle.token_grammar.specs.Texts.{Lexeme, lexemes}
-use Rattle.token_grammar.specs.Input.{Input, Outcome, Parser, Reads, ReadsAs}
-use Rattle.token_grammar.specs.Grammar.{Rule, lexemes_of, SpellsFront, IsFault, IsTooDeep}
+use Rattle.token_grammar.specs.steps.Parsers.{Input, Outcome, Parser, Reads, ReadsAs}
+use Rattle.token_grammar.specs.Grammar.{Rule, lexemes_of, SpellsFront, IsGrammarFault, IsTooDeep}
 use Rattle.token_grammar.proofs.Laws.{input, Exact}
 use Rattle.token_grammar.proofs.Front.{spells, is_fault, is_too_deep}
 
@@ -46,7 +46,7 @@ module _ {A : Type 0} {V : ℕ → Type 0} {p : Parser A} {L : Rule A} {more : L
   pub fault_answer : (tokens ts : List Lexeme) (from last outer : ℕ) (rest : List Lexeme)
       → ts ≡ drop from tokens → V outer
       → p (input last outer ts) ≡ Err (record { code = errors.Grammar; rest = rest })
-      → IsFault L outer (drop from tokens) (drop (length tokens - length rest) tokens)
+      → IsGrammarFault L outer (drop from tokens) (drop (length tokens - length rest) tokens)
   fault_answer tokens ts from last outer rest is v e =
       let s = is_fault h open_end (input last outer ts) v rest e in
       rw (place tokens (lexemes_of s.word) rest from (sym is ∙ s.tokens), ← is) s

@@ -4,8 +4,8 @@ use Rattle.std.proofs.lemmas.Bool.{le-ltb}
 use Rattle.std.proofs.lemmas.List.{append-nil}
 use Rattle.token_grammar.specs.Texts.{Lexeme}
 use Rattle.token_grammar.specs.declared.fault.ParseError.TheVariants.{Grammar, TooDeep}
-use Rattle.token_grammar.specs.Input.{Input, Stop, Outcome, Parser}
-use Rattle.token_grammar.specs.Grammar.{Word, Rule, lexemes_of, Within, Begins, Stops, SpellsFront, IsFault, IsTooDeep, max_depth}
+use Rattle.token_grammar.specs.steps.Parsers.{Input, Stop, Outcome, Parser}
+use Rattle.token_grammar.specs.Grammar.{Word, Rule, lexemes_of, Within, Begins, Stops, SpellsFront, IsGrammarFault, IsTooDeep, max_depth}
 use Rattle.token_grammar.proofs.Laws.{input, ends, Deep, Cut, at_end, Read, Refused, Told, gate, Same, Exact, lexemes_of-append}
 
 abbrev ok_of : {A : Type 0} → A × Input → Outcome A
@@ -191,7 +191,7 @@ module _ {A : Type 0} {V : ℕ → Type 0} {p : Parser A} {L : Rule A} {more : L
       (ap (λ (ts : List Lexeme). p (input i.last i.depth ts)) (sym eq) ∙ is)
 
   pub is_fault : (i : Input) → V i.depth → (rest : List Lexeme)
-      → p i ≡ Err (record { code = Grammar; rest = rest }) → IsFault L i.depth i.rest rest
+      → p i ≡ Err (record { code = Grammar; rest = rest }) → IsGrammarFault L i.depth i.rest rest
   is_fault i v rest e =
       let (r, longest) = refuses i v (record { code = Grammar; rest = rest }) e in
       record {

@@ -5,7 +5,7 @@ use Rattle.std.proofs.lemmas.List.{length-append}
 use Rattle.token_grammar.specs.Texts.{Lexeme}
 use Rattle.token_grammar.specs.declared.fault.ParseError.{ParseError}
 use Rattle.token_grammar.specs.declared.fault.ParseError.TheVariants.{Memory, Grammar, TooDeep}
-use Rattle.token_grammar.specs.Input.{Input, Stop, Outcome, Parser}
+use Rattle.token_grammar.specs.steps.Parsers.{Input, Stop, Outcome, Parser}
 use Rattle.token_grammar.specs.Grammar.{Word, Rule, lexemes_of, Within, max_depth}
 
 abbrev pub input : ℕ → ℕ → List Lexeme → Input

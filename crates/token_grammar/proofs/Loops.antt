@@ -2,7 +2,7 @@
 use Rattle.std.proofs.Common.{◌≡◌, ℕ, zero, suc, ◌+◌, ◌<◌, ◌≤◌, Bool, true, false, List, [], ◌∷◌, ◌++◌, length, Ok, Err, refl, sym, ap, ◌∙◌, append_assoc, arith, inl}
 use Rattle.std.proofs.lemmas.List.{append_cancel_right, length-append, append-nil}
 use Rattle.token_grammar.specs.Texts.{Lexeme}
-use Rattle.token_grammar.specs.Input.{Input, Outcome, Parser, and_then, loop_by, loop, repeated}
+use Rattle.token_grammar.specs.steps.Parsers.{Input, Outcome, Parser, and_then, loop_by, loop, repeated}
 use Rattle.token_grammar.specs.Grammar.{Word, Rule, lexemes_of, Within, times, many}
 use Rattle.token_grammar.proofs.Laws.{input, ends, Read, Told, gate, Same, Cut, Held, cut_held, none_above, Exact, lexemes_of-two, Within-append, ends-append}
 use Rattle.token_grammar.proofs.Bind.{gate-append, local_bind, cut_bind}

@@ -2,7 +2,7 @@
 use Rattle.std.proofs.Common.{◌≡◌, ℕ, zero, suc, true, false, List, [], ◌++◌, refl, inl, inr, ◌⊎◌}
 use Rattle.token_grammar.specs.declared.token.TokenKind.{TokenKind}
 use Rattle.token_grammar.specs.Texts.{Lexeme}
-use Rattle.token_grammar.specs.Input.{Parser, and_then}
+use Rattle.token_grammar.specs.steps.Parsers.{Parser, and_then}
 use Rattle.token_grammar.specs.Grammar.{Word, Rule, lexemes_of, ◌>>=◌, ◌or◌, give, times, many}
 use Rattle.token_grammar.proofs.Laws.{Exact, lexemes_of-two}
 use Rattle.token_grammar.proofs.Bind.{bind}

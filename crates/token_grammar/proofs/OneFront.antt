@@ -1,7 +1,7 @@
 -- Lexemes have one longest front that begins a rule.
 use Rattle.std.proofs.Common.{◌≡◌, ℕ, List, [], ◌∷◌, ◌++◌, append_assoc, append-nil, refl, sym, ap, subst, ◌∙◌}
 use Rattle.token_grammar.specs.Texts.{Lexeme}
-use Rattle.token_grammar.specs.Grammar.{Word, Rule, lexemes_of, Begins, Stops, IsLongest}
+use Rattle.token_grammar.specs.Grammar.{Word, Rule, lexemes_of, Begins, Stops, IsLongestFront}
 
 -- the words of two parts of its lexemes
 word_parts : (w : Word) (xs ys : List Lexeme) → lexemes_of w ≡ xs ++ ys
@@ -58,7 +58,7 @@ module _ {A : Type 0} (L : Rule A) (d : ℕ) where
       (subst (λ (ls : List Lexeme). Stops L d ls s) right q)
 
 -- What follows the longest front is determined.
-pub one_rest : {A : Type 0} (L : Rule A) (ts r s : List Lexeme) → IsLongest L ts r
-    → IsLongest L ts s → r ≡ s
+pub one_rest : {A : Type 0} (L : Rule A) (ts r s : List Lexeme) → IsLongestFront L ts r
+    → IsLongestFront L ts s → r ≡ s
 one_rest L ts r s a b = one_rest_by L 0 [] a.front b.front r s (sym a.tokens ∙ b.tokens) a.begun
     b.begun a.stops b.stops

@@ -6,7 +6,7 @@ use Rattle.token_grammar.specs.declared.token.TokenKind.{TokenKind}
 use Rattle.token_grammar.specs.Texts.{Lexeme}
 use Rattle.token_grammar.specs.Kinds.{place_of, same_kind, is_kind}
 use Rattle.token_grammar.specs.declared.fault.ParseError.TheVariants.{Grammar, TooDeep}
-use Rattle.token_grammar.specs.Input.{Input, take_in, take_as}
+use Rattle.token_grammar.specs.steps.Parsers.{Input, take_in, take_as}
 use Rattle.token_grammar.specs.Grammar.{Word, lexemes_of, max_depth, token_as}
 use Rattle.token_grammar.proofs.Laws.{input, Told, gate, Same, Cut, Exact, at_end, cut_err, none_above}
 

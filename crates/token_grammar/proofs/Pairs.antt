@@ -3,7 +3,7 @@ use Rattle.std.proofs.Common.{◌≡◌, ℕ, ◌+◌, ◌≤◌, Bool, true, fa
 use Rattle.token_grammar.specs.declared.token.TokenKind.{TokenKind}
 use Rattle.token_grammar.specs.Texts.{Lexeme}
 use Rattle.token_grammar.specs.Kinds.{is_kind}
-use Rattle.token_grammar.specs.Input.{Parser, sees_in, sees_two, choose}
+use Rattle.token_grammar.specs.steps.Parsers.{Parser, sees_in, sees_two, choose}
 use Rattle.token_grammar.specs.Grammar.{Word, Rule, lexemes_of, max_depth, ◌or◌}
 use Rattle.token_grammar.proofs.Laws.{input, Exact, Held}
 use Rattle.token_grammar.proofs.Steps.{IsLong}

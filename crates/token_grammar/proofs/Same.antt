@@ -2,7 +2,7 @@
 use Rattle.std.proofs.Common.{ℕ, zero, suc, ◌+◌, Bool, List, ◌∷◌, inl, inr}
 use Rattle.token_grammar.specs.declared.token.TokenKind.{TokenKind}
 use Rattle.token_grammar.specs.Texts.{Lexeme}
-use Rattle.token_grammar.specs.Input.{Parser}
+use Rattle.token_grammar.specs.steps.Parsers.{Parser}
 use Rattle.token_grammar.specs.Grammar.{Word, Rule, ◌>>=◌, ◌or◌, scoped, deeper, node, times, many}
 use Rattle.token_grammar.proofs.Laws.{Exact}
 use Rattle.token_grammar.proofs.Steps.{exact_same, told_same}

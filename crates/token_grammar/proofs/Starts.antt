@@ -7,7 +7,7 @@ use Rattle.token_grammar.specs.declared.fault.ParseError.TheVariants.{Memory, Gr
 use Rattle.token_grammar.specs.declared.token.TokenKind.{TokenKind}
 use Rattle.token_grammar.specs.Texts.{Lexeme}
 use Rattle.token_grammar.specs.Kinds.{place_of, same_kind, is_kind}
-use Rattle.token_grammar.specs.Input.{Stop, Outcome, Parser, and_then, pure, sees_in, take_as, choose}
+use Rattle.token_grammar.specs.steps.Parsers.{Stop, Outcome, Parser, and_then, pure, sees_in, take_as, choose}
 use Rattle.token_grammar.specs.Grammar.{Word, Rule, lexemes_of, Within, ◌>>=◌, ◌or◌, give, token_as, scoped, deeper, node, max_depth}
 use Rattle.token_grammar.proofs.Laws.{input, Told, Same, Held, Reason, gate, at_end, Some_, Exact, lexemes_of-two}
 use Rattle.token_grammar.proofs.OneToken.{never, a_token, same_kind_refl, exact_that}

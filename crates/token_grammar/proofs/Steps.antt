@@ -2,7 +2,7 @@
 use Rattle.std.proofs.Common.{◌≡◌, ℕ, ◌+◌, ◌<◌, Bool, true, false, cond, ltb, List, [], ◌∷◌, ◌++◌, length, Ok, Err, refl, sym, ap, ◌∙◌, arith, inl, inr, ◌⊎◌}
 use Rattle.std.proofs.lemmas.List.{append_cancel_right}
 use Rattle.token_grammar.specs.Texts.{Lexeme}
-use Rattle.token_grammar.specs.Input.{Input, Stop, Outcome, Parser, pure, back_to, scoped as back_after, start, start_in, choose, node as node_of, deeper as deeper_of, with_place}
+use Rattle.token_grammar.specs.steps.Parsers.{Input, Stop, Outcome, Parser, pure, back_to, scoped as back_after, start, start_in, choose, node as node_of, deeper as deeper_of, with_place}
 use Rattle.token_grammar.specs.Grammar.{Word, Rule, lexemes_of, give, ◌or◌, scoped, node, deeper, start_of, end_of}
 use Rattle.token_grammar.proofs.Laws.{input, ends, Told, gate, Same, Exact, Cut, Held, at_end, cut_err, cut_held, none_above}
 

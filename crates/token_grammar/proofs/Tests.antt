@@ -2,7 +2,7 @@
 use Rattle.std.proofs.Common.{◌≡◌, ℕ, Bool, true, false, List, [], ◌∷◌, ◌++◌, refl, sym, ap, ◌∙◌, inl, inr, ◌+◌}
 use Rattle.std.proofs.lemmas.List.{append-nil}
 use Rattle.token_grammar.specs.Texts.{Lexeme}
-use Rattle.token_grammar.specs.Input.{Parser, pure, choose, sees_that}
+use Rattle.token_grammar.specs.steps.Parsers.{Parser, pure, choose, sees_that}
 use Rattle.token_grammar.specs.Grammar.{Word, Rule, lexemes_of, ◌>>=◌, ◌or◌, give, token_as, scoped, deeper, node}
 use Rattle.token_grammar.proofs.Laws.{input, Held, Some_, Exact, lexemes_of-two}
 use Rattle.token_grammar.proofs.OneToken.{never}

@@ -7,7 +7,7 @@ use Rattle.token_grammar.specs.declared.token.TokenKind.{TokenKind}
 use Rattle.token_grammar.specs.Texts.{Lexeme}
 use Rattle.token_grammar.specs.Kinds.{is_kind}
 use Rattle.token_grammar.specs.declared.fault.ParseError.TheVariants.{Grammar, TooDeep}
-use Rattle.token_grammar.specs.Input.{Outcome, Parser, choose, sees_in, second_in, third_in, sees_three}
+use Rattle.token_grammar.specs.steps.Parsers.{Outcome, Parser, choose, sees_in, second_in, third_in, sees_three}
 use Rattle.token_grammar.specs.Grammar.{Word, Rule, lexemes_of, Within, ◌or◌, max_depth}
 use Rattle.token_grammar.proofs.Laws.{input, ends, gate, Same, Cut, Held, cut_err, cut_held, Exact, lexemes_of-append, lexemes_of-two}
 use Rattle.token_grammar.proofs.OneToken.{a_token, same_kind_refl}

@@ -1,7 +1,7 @@
 -- A recursion on a count of turns, beside a loop that counts them.
 use Rattle.std.proofs.Common.{◌≡◌, ℕ, suc, ◌+◌, ◌-◌, ◌<◌, ◌≤◌, Bool, true, false, List, Ok, Err, ap, ◌∙◌, arith}
 use Rattle.token_grammar.specs.Texts.{Lexeme}
-use Rattle.token_grammar.specs.Input.{Input, Stop, Outcome, Parser, and_then, loop_by, loop}
+use Rattle.token_grammar.specs.steps.Parsers.{Input, Stop, Outcome, Parser, and_then, loop_by, loop}
 
 pub one_more : {X : Type 0} {x : X} (f : ℕ → X) (n at : ℕ) → at < n → x ≡ f (n - at)
     → x ≡ f (suc (n - (at + 1)))

@@ -5,7 +5,7 @@ use Rattle.std.proofs.lemmas.List.{append-nil, length-append, nil_from_length}
 use Rattle.token_grammar.specs.declared.token.TokenKind.{TokenKind}
 use Rattle.token_grammar.specs.Texts.{Lexeme}
 use Rattle.token_grammar.specs.declared.fault.ParseError.TheVariants.{TooDeep}
-use Rattle.token_grammar.specs.Input.{Input, Outcome, Parser, choose, sees_in, second_in, sees_two}
+use Rattle.token_grammar.specs.steps.Parsers.{Input, Outcome, Parser, choose, sees_in, second_in, sees_two}
 use Rattle.token_grammar.specs.Grammar.{Word, Rule, lexemes_of, Within, ◌or◌, max_depth}
 use Rattle.token_grammar.proofs.Laws.{input, ends, Told, gate, Same, Cut, Held, at_end, cut_err, cut_held, Exact}
 use Rattle.token_grammar.proofs.Front.{gate_ok, gate_within, cons_nil}

@@ -5,8 +5,8 @@ use Rattle.std.proofs.lemmas.Bool.{le-ltb, lt-ltb}
 use Rattle.std.proofs.lemmas.List.{append-nil, length-append}
 use Rattle.token_grammar.specs.Texts.{Lexeme}
 use Rattle.token_grammar.specs.declared.fault.ParseError.TheVariants.{Grammar, TooDeep}
-use Rattle.token_grammar.specs.Input.{Input, Stop, Outcome, Parser}
-use Rattle.token_grammar.specs.Grammar.{Word, Rule, lexemes_of, Within, max_depth, Begins, Stops, Spells, IsLongest, IsTooDeep, IsWrong}
+use Rattle.token_grammar.specs.steps.Parsers.{Input, Stop, Outcome, Parser}
+use Rattle.token_grammar.specs.Grammar.{Word, Rule, lexemes_of, Within, max_depth, Begins, Stops, Spells, IsLongestFront, IsTooDeep, IsWrong}
 use Rattle.token_grammar.proofs.Laws.{input, gate, Same, Exact, lexemes_of-append}
 use Rattle.token_grammar.proofs.Front.{spells, is_fault, is_too_deep, finds, one_value}
 use Rattle.token_grammar.proofs.OneFront.{begins_first, one_rest}
@@ -96,7 +96,7 @@ no_word L ts front t r x is stops s = stops t r refl (begins_first L 0 (front ++
     (subst (Begins L 0) (is ∙ sym (append_assoc front (t ∷ []) r)) (begun_all L ts x s)))
 
 pub longest_of : {A : Type 0} {L : Rule A} {ts rest : List Lexeme} → IsWrong L ts rest
-    → IsLongest L ts rest
+    → IsLongestFront L ts rest
 longest_of w = record {
   front = lexemes_of w.word;
   tokens = w.tokens;

@@ -108,7 +108,7 @@ pub record Spells {A : Type 0} (L : Rule A) (ts : List Lexeme) (x : A) : Type 0 
   pub within : Within word
 
 -- The lexemes up to the rest begin the rule, and with the next one they no longer do.
-pub record IsLongest {A : Type 0} (L : Rule A) (ts rest : List Lexeme) : Type 0 where
+pub record IsLongestFront {A : Type 0} (L : Rule A) (ts rest : List Lexeme) : Type 0 where
   pub front : List Lexeme
   pub tokens : ts ≡ front ++ rest
   pub begun : Begins L 0 front
@@ -127,7 +127,7 @@ pub record SpellsFront {A : Type 0} (L : Rule A) (d : ℕ) (ts : List Lexeme) (x
 
 -- The lexemes up to the rest begin the rule, none of them too deep, and with the next one they
 -- don't.
-pub record IsFault {A : Type 0} (L : Rule A) (d : ℕ) (ts rest : List Lexeme) : Type 0 where
+pub record IsGrammarFault {A : Type 0} (L : Rule A) (d : ℕ) (ts rest : List Lexeme) : Type 0 where
   pub word : Word
   pub more : Word
   pub value : A

@@ -1,5 +1,5 @@
 pub mod Texts
 pub mod Kinds
 pub mod Grammar
-pub mod Input
 pub mod Kept
+pub mod steps

@@ -2,8 +2,8 @@
 
 ghost use Rattle.std.specs.Prelude.{◌≡◌, ◌+◌, ◌≤◌, ◌-◌, OnOk, take, drop};
 ghost use Rattle.token_grammar.specs.Kinds as kinds;
-ghost use Rattle.token_grammar.specs.Input as spec;
-ghost use Rattle.token_grammar.specs.Input.{ReadsAs, view};
+ghost use Rattle.token_grammar.specs.steps.Parsers as spec;
+ghost use Rattle.token_grammar.specs.steps.Parsers.{ReadsAs, view};
 ghost use Rattle.token_grammar.specs.Texts.{lexeme};
 
 use crate::fault::ParseError;

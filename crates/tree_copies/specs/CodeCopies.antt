@@ -1,5 +1,5 @@
--- What a copy of code has of its source: the same instructions and cells. Where its parts lie in memory differs. Source: this profile. The
--- code copies the instructions one by one.
+-- What a copy of code has of its source: the same instructions and cells. Where its parts lie in
+-- memory differs. Source: this profile. The code copies the instructions one by one.
 use Rattle.std.specs.Prelude.{◌≡◌, List, map}
 use Rattle.st_tree.specs.declared.code.CellInfo.{CellInfo}
 use Rattle.st_tree.specs.declared.code.TaskCode.{TaskCode}

@@ -78,7 +78,8 @@ fn copy_tasks(alloc: Global, tasks: &[TaskCode]) -> Result<Items<TaskCode>, NoMe
     Ok(made)
 }
 
-/// A component of the same instructions, cells and literals. NoMemory where there is none for the copy.
+/// A component of the same instructions, cells and literals. NoMemory where there is none for the
+/// copy.
 pub fn copy_component(alloc: Global, component: &Component) -> Result<Component, NoMemory>
     ensures { IfOk result (λ t. IsComponentCopy component.now t) }
 {

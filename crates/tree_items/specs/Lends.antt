@@ -13,6 +13,8 @@ module _ (T : RattleType) where
   abbrev pub LendsItem : MutBor (List T.Denot) → ℕ → MutBor T.Denot → Fml
   LendsItem b at r = Lends (items.the_row T) T b r (slice_set b.now at)
 
-  -- once the borrow ends, the items are the last ones written through it, which are as many as before
+  -- once the borrow ends, the items are the last ones written through it, as many as before
   abbrev pub LendsItems : MutBor (List T.Denot) → MutBor (List T.Denot) → Fml
-  LendsItems b r = Lends (items.the_row T) (Array T 0) b r (λ w. take (length b.now) (w ++ drop (length w) b.now))
+  LendsItems b r =
+      Lends (items.the_row T) (Array T 0) b r
+      (λ w. take (length b.now) (w ++ drop (length w) b.now))

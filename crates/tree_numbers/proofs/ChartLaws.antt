@@ -17,12 +17,15 @@ use Rattle.tree_numbers.proofs.ExpressionLaws.{identifier_way, identifier_is, ex
 use Rattle.tree_numbers.proofs.StatementLaws.{stmt_way, stmt_is}
 
 abbrev pub association_way : Way Association
-association_way = record { counts = counted_association; nodes = nodes_of_association; bare = bare_association }
+association_way =
+    record { counts = counted_association; nodes = nodes_of_association; bare = bare_association }
 
 pub association_is : (x : Association) → IsCounted association_way x
 association_is x =
-    at3 association_way (λ node action qualifier. record { node = node; action = action; qualifier = qualifier })
-    (λ node action qualifier c. refl) (λ node action qualifier. refl) (λ node action qualifier. refl)
+    at3 association_way
+    (λ node action qualifier. record { node = node; action = action; qualifier = qualifier })
+    (λ node action qualifier c. refl) (λ node action qualifier. refl)
+    (λ node action qualifier. refl)
     (node_is x.node) (identifier_is x.action) (option_is identifier_way identifier_is x.qualifier)
 
 abbrev pub step_way : Way Step
@@ -30,12 +33,15 @@ step_way = record { counts = counted_step; nodes = nodes_of_step; bare = bare_st
 
 pub step_is : (x : Step) → IsCounted step_way x
 step_is x =
-    at3 step_way (λ node name associations. record { node = node; name = name; associations = associations })
-    (λ node name associations c. refl) (λ node name associations. refl) (λ node name associations. refl)
+    at3 step_way
+    (λ node name associations. record { node = node; name = name; associations = associations })
+    (λ node name associations c. refl) (λ node name associations. refl)
+    (λ node name associations. refl)
     (node_is x.node) (identifier_is x.name) (each_is association_way association_is x.associations)
 
 abbrev pub step_names_way : Way StepNames
-step_names_way = record { counts = counted_step_names; nodes = nodes_of_step_names; bare = bare_step_names }
+step_names_way =
+    record { counts = counted_step_names; nodes = nodes_of_step_names; bare = bare_step_names }
 
 pub step_names_is : (x : StepNames) → IsCounted step_names_way x
 step_names_is (StepNames.One name) =
@@ -48,13 +54,18 @@ step_names_is (StepNames.Several node names) =
     (node_is node) (each_is identifier_way identifier_is names)
 
 abbrev pub transition_way : Way Transition
-transition_way = record { counts = counted_transition; nodes = nodes_of_transition; bare = bare_transition }
+transition_way =
+    record { counts = counted_transition; nodes = nodes_of_transition; bare = bare_transition }
 
 pub transition_is : (x : Transition) → IsCounted transition_way x
 transition_is x =
-    at5 transition_way (λ node name from to condition. record { node = node; name = name; from = from; to = to; condition = condition })
-    (λ node name from to condition c. refl) (λ node name from to condition. refl) (λ node name from to condition. refl)
-    (node_is x.node) (option_is identifier_way identifier_is x.name) (step_names_is x.from) (step_names_is x.to) (expr_is x.condition)
+    at5 transition_way
+    (λ node name from to condition. record
+    { node = node; name = name; from = from; to = to; condition = condition })
+    (λ node name from to condition c. refl) (λ node name from to condition. refl)
+    (λ node name from to condition. refl)
+    (node_is x.node) (option_is identifier_way identifier_is x.name) (step_names_is x.from)
+    (step_names_is x.to) (expr_is x.condition)
 
 abbrev pub action_way : Way Action
 action_way = record { counts = counted_action; nodes = nodes_of_action; bare = bare_action }

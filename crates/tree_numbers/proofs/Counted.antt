@@ -13,7 +13,8 @@ abbrev starts_of : List Node → List ℕ
 starts_of ns = map (λ node. node.start) ns
 
 pub counted_rest : (ns : List Node) (c : Counting) →
-    (each (map counted ns) c).1 ≡ record { comments = c.comments; starts = c.starts ++ starts_of ns }
+    (each (map counted ns) c).1
+    ≡ record { comments = c.comments; starts = c.starts ++ starts_of ns }
 counted_rest [] c =
     ap (λ (l : List ℕ). record { comments = c.comments; starts = l }) (sym (append-nil c.starts))
 counted_rest (x ∷ ns) c =

@@ -21,7 +21,8 @@ use Rattle.tree_numbers.proofs.BareEquations.{rolled_bare_expr, rolled_bare_part
 use Rattle.tree_numbers.proofs.Numbering.{Way, IsCounted, Held, node_is, at1, at2, at3, option_is, each_held}
 
 abbrev pub identifier_way : Way Identifier
-identifier_way = record { counts = counted_identifier; nodes = nodes_of_identifier; bare = bare_identifier }
+identifier_way =
+    record { counts = counted_identifier; nodes = nodes_of_identifier; bare = bare_identifier }
 
 pub identifier_is : (x : Identifier) → IsCounted identifier_way x
 identifier_is x =
@@ -68,101 +69,134 @@ abbrev HeldExpr : Type 0
 HeldExpr = Expr-F (Held expr_way) (Held part_way) (Held argument_way) (Held path_way)
 
 abbrev plain_expr : HeldExpr → Expr-F Expr Part Argument Path
-plain_expr y = map-Expr (Held expr_way) (Held part_way) (Held argument_way) (Held path_way) Expr Part Argument Path (λ e. e.0) (λ e. e.0) (λ e. e.0) (λ e. e.0) y
+plain_expr y =
+    map-Expr (Held expr_way) (Held part_way) (Held argument_way) (Held path_way) Expr Part Argument
+    Path (λ e. e.0) (λ e. e.0) (λ e. e.0) (λ e. e.0) y
 
 abbrev HeldPart : Type 0
 HeldPart = Part-F (Held expr_way) (Held part_way) (Held argument_way) (Held path_way)
 
 abbrev plain_part : HeldPart → Part-F Expr Part Argument Path
-plain_part y = map-Part (Held expr_way) (Held part_way) (Held argument_way) (Held path_way) Expr Part Argument Path (λ e. e.0) (λ e. e.0) (λ e. e.0) (λ e. e.0) y
+plain_part y =
+    map-Part (Held expr_way) (Held part_way) (Held argument_way) (Held path_way) Expr Part Argument
+    Path (λ e. e.0) (λ e. e.0) (λ e. e.0) (λ e. e.0) y
 
 abbrev HeldArgument : Type 0
 HeldArgument = Argument-F (Held expr_way) (Held part_way) (Held argument_way) (Held path_way)
 
 abbrev plain_argument : HeldArgument → Argument-F Expr Part Argument Path
-plain_argument y = map-Argument (Held expr_way) (Held part_way) (Held argument_way) (Held path_way) Expr Part Argument Path (λ e. e.0) (λ e. e.0) (λ e. e.0) (λ e. e.0) y
+plain_argument y =
+    map-Argument (Held expr_way) (Held part_way) (Held argument_way) (Held path_way) Expr Part
+    Argument Path (λ e. e.0) (λ e. e.0) (λ e. e.0) (λ e. e.0) y
 
 abbrev HeldPath : Type 0
 HeldPath = Path-F (Held expr_way) (Held part_way) (Held argument_way) (Held path_way)
 
 abbrev plain_path : HeldPath → Path-F Expr Part Argument Path
-plain_path y = map-Path (Held expr_way) (Held part_way) (Held argument_way) (Held path_way) Expr Part Argument Path (λ e. e.0) (λ e. e.0) (λ e. e.0) (λ e. e.0) y
+plain_path y =
+    map-Path (Held expr_way) (Held part_way) (Held argument_way) (Held path_way) Expr Part Argument
+    Path (λ e. e.0) (λ e. e.0) (λ e. e.0) (λ e. e.0) y
 
 expr_layer_is : (y : HeldExpr) → IsCounted expr_way (roll-Expr (plain_expr y))
 unfolding roll-Expr Carrier.roll
 expr_layer_is (Expr-F.Number node minus text) =
     at1 expr_way (λ node. expr.Number node minus text)
-    (λ node c. rolled_expr (Expr-F.Number node minus text) c) (λ node. of_number node minus text) (λ node. rolled_bare_expr (Expr-F.Number node minus text))
+    (λ node c. rolled_expr (Expr-F.Number node minus text) c) (λ node. of_number node minus text)
+    (λ node. rolled_bare_expr (Expr-F.Number node minus text))
     (node_is node)
 expr_layer_is (Expr-F.Typed node text) =
     at1 expr_way (λ node. expr.Typed node text)
-    (λ node c. rolled_expr (Expr-F.Typed node text) c) (λ node. of_typed node text) (λ node. rolled_bare_expr (Expr-F.Typed node text))
+    (λ node c. rolled_expr (Expr-F.Typed node text) c) (λ node. of_typed node text)
+    (λ node. rolled_bare_expr (Expr-F.Typed node text))
     (node_is node)
 expr_layer_is (Expr-F.Time node text) =
     at1 expr_way (λ node. expr.Time node text)
-    (λ node c. rolled_expr (Expr-F.Time node text) c) (λ node. of_time node text) (λ node. rolled_bare_expr (Expr-F.Time node text))
+    (λ node c. rolled_expr (Expr-F.Time node text) c) (λ node. of_time node text)
+    (λ node. rolled_bare_expr (Expr-F.Time node text))
     (node_is node)
 expr_layer_is (Expr-F.Truth node truth) =
     at1 expr_way (λ node. expr.Truth node truth)
-    (λ node c. rolled_expr (Expr-F.Truth node truth) c) (λ node. of_truth node truth) (λ node. rolled_bare_expr (Expr-F.Truth node truth))
+    (λ node c. rolled_expr (Expr-F.Truth node truth) c) (λ node. of_truth node truth)
+    (λ node. rolled_bare_expr (Expr-F.Truth node truth))
     (node_is node)
 expr_layer_is (Expr-F.Path path) =
     at1 expr_way expr.Path
-    (λ path c. rolled_expr (Expr-F.Path path) c) (λ path. of_path path) (λ path. rolled_bare_expr (Expr-F.Path path))
+    (λ path c. rolled_expr (Expr-F.Path path) c) (λ path. of_path path)
+    (λ path. rolled_bare_expr (Expr-F.Path path))
     path.1
 expr_layer_is (Expr-F.Value node name value) =
     at3 expr_way expr.Value
-    (λ node name value c. rolled_expr (Expr-F.Value node name value) c) (λ node name value. of_value node name value) (λ node name value. rolled_bare_expr (Expr-F.Value node name value))
+    (λ node name value c. rolled_expr (Expr-F.Value node name value) c)
+    (λ node name value. of_value node name value)
+    (λ node name value. rolled_bare_expr (Expr-F.Value node name value))
     (node_is node) (identifier_is name) (identifier_is value)
 expr_layer_is (Expr-F.Parenthesized node inner) =
     at2 expr_way expr.Parenthesized
-    (λ node inner c. rolled_expr (Expr-F.Parenthesized node inner) c) (λ node inner. of_parenthesized node inner) (λ node inner. rolled_bare_expr (Expr-F.Parenthesized node inner))
+    (λ node inner c. rolled_expr (Expr-F.Parenthesized node inner) c)
+    (λ node inner. of_parenthesized node inner)
+    (λ node inner. rolled_bare_expr (Expr-F.Parenthesized node inner))
     (node_is node) inner.1
 expr_layer_is (Expr-F.Unary node operator operand) =
     at2 expr_way (λ node operand. expr.Unary node operator operand)
-    (λ node operand c. rolled_expr (Expr-F.Unary node operator operand) c) (λ node operand. of_unary node operator operand) (λ node operand. rolled_bare_expr (Expr-F.Unary node operator operand))
+    (λ node operand c. rolled_expr (Expr-F.Unary node operator operand) c)
+    (λ node operand. of_unary node operator operand)
+    (λ node operand. rolled_bare_expr (Expr-F.Unary node operator operand))
     (node_is node) operand.1
 expr_layer_is (Expr-F.Binary node operator left right) =
     at3 expr_way (λ node left right. expr.Binary node operator left right)
-    (λ node left right c. rolled_expr (Expr-F.Binary node operator left right) c) (λ node left right. of_binary node operator left right) (λ node left right. rolled_bare_expr (Expr-F.Binary node operator left right))
+    (λ node left right c. rolled_expr (Expr-F.Binary node operator left right) c)
+    (λ node left right. of_binary node operator left right)
+    (λ node left right. rolled_bare_expr (Expr-F.Binary node operator left right))
     (node_is node) left.1 right.1
 expr_layer_is (Expr-F.Call node name arguments) =
     at3 expr_way expr.Call
-    (λ node name arguments c. rolled_expr (Expr-F.Call node name arguments) c) (λ node name arguments. of_call node name arguments) (λ node name arguments. rolled_bare_expr (Expr-F.Call node name arguments))
+    (λ node name arguments c. rolled_expr (Expr-F.Call node name arguments) c)
+    (λ node name arguments. of_call node name arguments)
+    (λ node name arguments. rolled_bare_expr (Expr-F.Call node name arguments))
     (node_is node) (identifier_is name) (each_held argument_way arguments)
 
 part_layer_is : (y : HeldPart) → IsCounted part_way (roll-Part (plain_part y))
 unfolding roll-Part Carrier.roll
 part_layer_is (Part-F.Field name) =
     at1 part_way part.Field
-    (λ name c. rolled_part (Part-F.Field name) c) (λ name. of_field_part name) (λ name. rolled_bare_part (Part-F.Field name))
+    (λ name c. rolled_part (Part-F.Field name) c) (λ name. of_field_part name)
+    (λ name. rolled_bare_part (Part-F.Field name))
     (identifier_is name)
 part_layer_is (Part-F.Index node indices) =
     at2 part_way part.Index
-    (λ node indices c. rolled_part (Part-F.Index node indices) c) (λ node indices. of_index node indices) (λ node indices. rolled_bare_part (Part-F.Index node indices))
+    (λ node indices c. rolled_part (Part-F.Index node indices) c)
+    (λ node indices. of_index node indices)
+    (λ node indices. rolled_bare_part (Part-F.Index node indices))
     (node_is node) (each_held expr_way indices)
 
 argument_layer_is : (y : HeldArgument) → IsCounted argument_way (roll-Argument (plain_argument y))
 argument_layer_is y = rw (rolls-Argument' (plain_argument y))
     (at3 argument_way (λ node name value. record { node = node; name = name; value = value })
-    (λ node name value c. rolled_argument (record { node = node; name = name; value = value }) c) (λ node name value. of_argument node name value) (λ node name value. rolled_bare_argument (record { node = node; name = name; value = value }))
+    (λ node name value c. rolled_argument (record { node = node; name = name; value = value }) c)
+    (λ node name value. of_argument node name value)
+    (λ node name value. rolled_bare_argument
+    (record { node = node; name = name; value = value }))
     (node_is y.node) (option_is identifier_way identifier_is y.name) y.value.1)
 
 path_layer_is : (y : HeldPath) → IsCounted path_way (roll-Path (plain_path y))
 path_layer_is y = rw (rolls-Path' (plain_path y))
     (at3 path_way (λ node root parts. record { node = node; root = root; parts = parts })
-    (λ node root parts c. rolled_path (record { node = node; root = root; parts = parts }) c) (λ node root parts. of_whole_path node root parts) (λ node root parts. rolled_bare_path (record { node = node; root = root; parts = parts }))
+    (λ node root parts c. rolled_path (record { node = node; root = root; parts = parts }) c)
+    (λ node root parts. of_whole_path node root parts)
+    (λ node root parts. rolled_bare_path (record { node = node; root = root; parts = parts }))
     (node_is y.node) (root_is y.root) (each_held part_way y.parts))
 
 pub expr_is : (x : Expr) → IsCounted expr_way x
-expr_is = ind-Expr (IsCounted expr_way) (IsCounted part_way) (IsCounted argument_way) (IsCounted path_way)
+expr_is =
+    ind-Expr (IsCounted expr_way) (IsCounted part_way) (IsCounted argument_way) (IsCounted path_way)
     (λ x y is. subst (λ z. IsCounted expr_way (roll-Expr z)) is (expr_layer_is y))
     (λ x y is. subst (λ z. IsCounted part_way (roll-Part z)) is (part_layer_is y))
     (λ x y is. subst (λ z. IsCounted argument_way (roll-Argument z)) is (argument_layer_is y))
     (λ x y is. subst (λ z. IsCounted path_way (roll-Path z)) is (path_layer_is y))
 
 pub path_is : (x : Path) → IsCounted path_way x
-path_is = ind-Path (IsCounted expr_way) (IsCounted part_way) (IsCounted argument_way) (IsCounted path_way)
+path_is =
+    ind-Path (IsCounted expr_way) (IsCounted part_way) (IsCounted argument_way) (IsCounted path_way)
     (λ x y is. subst (λ z. IsCounted expr_way (roll-Expr z)) is (expr_layer_is y))
     (λ x y is. subst (λ z. IsCounted part_way (roll-Part z)) is (part_layer_is y))
     (λ x y is. subst (λ z. IsCounted argument_way (roll-Argument z)) is (argument_layer_is y))

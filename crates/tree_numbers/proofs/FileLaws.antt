@@ -43,7 +43,8 @@ body_is (Body.Chart chart) =
     (sfc_is chart)
 
 abbrev pub unit_kind_way : Way UnitKind
-unit_kind_way = record { counts = counted_unit_kind; nodes = nodes_of_unit_kind; bare = bare_unit_kind }
+unit_kind_way =
+    record { counts = counted_unit_kind; nodes = nodes_of_unit_kind; bare = bare_unit_kind }
 
 pub unit_kind_is : (x : UnitKind) → IsCounted unit_kind_way x
 unit_kind_is (UnitKind.Function name) =
@@ -58,18 +59,24 @@ unit_way = record { counts = counted_unit; nodes = nodes_of_unit; bare = bare_un
 
 pub unit_is : (x : Unit) → IsCounted unit_way x
 unit_is x =
-    at5 unit_way (λ node name kind sections body. record { node = node; name = name; kind = kind; sections = sections; body = body })
-    (λ node name kind sections body c. refl) (λ node name kind sections body. refl) (λ node name kind sections body. refl)
-    (node_is x.node) (identifier_is x.name) (unit_kind_is x.kind) (each_is section_way section_is x.sections) (body_is x.body)
+    at5 unit_way
+    (λ node name kind sections body. record
+    { node = node; name = name; kind = kind; sections = sections; body = body })
+    (λ node name kind sections body c. refl) (λ node name kind sections body. refl)
+    (λ node name kind sections body. refl)
+    (node_is x.node) (identifier_is x.name) (unit_kind_is x.kind)
+    (each_is section_way section_is x.sections) (body_is x.body)
 
 abbrev pub fields_way : Way Fields
 fields_way = record { counts = counted_fields; nodes = nodes_of_fields; bare = bare_fields }
 
 pub fields_is : (x : Fields) → IsCounted fields_way x
 fields_is x =
-    at4 fields_way (λ node names spec init. record { node = node; names = names; spec = spec; init = init })
+    at4 fields_way
+    (λ node names spec init. record { node = node; names = names; spec = spec; init = init })
     (λ node names spec init c. refl) (λ node names spec init. refl) (λ node names spec init. refl)
-    (node_is x.node) (each_is identifier_way identifier_is x.names) (spec_is x.spec) (option_is init_way init_is x.init)
+    (node_is x.node) (each_is identifier_way identifier_is x.names) (spec_is x.spec)
+    (option_is init_way init_is x.init)
 
 abbrev pub shape_way : Way Shape
 shape_way = record { counts = counted_shape; nodes = nodes_of_shape; bare = bare_shape }
@@ -85,11 +92,13 @@ shape_is (Shape.Structure node members) =
     (node_is node) (each_is fields_way fields_is members)
 
 abbrev pub type_decl_way : Way TypeDecl
-type_decl_way = record { counts = counted_type_decl; nodes = nodes_of_type_decl; bare = bare_type_decl }
+type_decl_way =
+    record { counts = counted_type_decl; nodes = nodes_of_type_decl; bare = bare_type_decl }
 
 pub type_decl_is : (x : TypeDecl) → IsCounted type_decl_way x
 type_decl_is x =
-    at4 type_decl_way (λ node name shape init. record { node = node; name = name; shape = shape; init = init })
+    at4 type_decl_way
+    (λ node name shape init. record { node = node; name = name; shape = shape; init = init })
     (λ node name shape init c. refl) (λ node name shape init. refl) (λ node name shape init. refl)
     (node_is x.node) (identifier_is x.name) (shape_is x.shape) (option_is init_way init_is x.init)
 
@@ -112,7 +121,8 @@ globals_is x =
     (node_is x.node) (each_is decl_way decl_is x.decls)
 
 abbrev pub parameter_way : Way Parameter
-parameter_way = record { counts = counted_parameter; nodes = nodes_of_parameter; bare = bare_parameter }
+parameter_way =
+    record { counts = counted_parameter; nodes = nodes_of_parameter; bare = bare_parameter }
 
 pub parameter_is : (x : Parameter) → IsCounted parameter_way x
 parameter_is x =
@@ -125,18 +135,25 @@ task_way = record { counts = counted_task; nodes = nodes_of_task; bare = bare_ta
 
 pub task_is : (x : Task) → IsCounted task_way x
 task_is x =
-    at3 task_way (λ node name parameters. record { node = node; name = name; parameters = parameters })
+    at3 task_way
+    (λ node name parameters. record { node = node; name = name; parameters = parameters })
     (λ node name parameters c. refl) (λ node name parameters. refl) (λ node name parameters. refl)
     (node_is x.node) (identifier_is x.name) (each_is parameter_way parameter_is x.parameters)
 
 abbrev pub program_line_way : Way ProgramLine
-program_line_way = record { counts = counted_program_line; nodes = nodes_of_program_line; bare = bare_program_line }
+program_line_way =
+    record
+    { counts = counted_program_line; nodes = nodes_of_program_line; bare = bare_program_line }
 
 pub program_line_is : (x : ProgramLine) → IsCounted program_line_way x
 program_line_is x =
-    at4 program_line_way (λ node name task program. record { node = node; name = name; task = task; program = program })
-    (λ node name task program c. refl) (λ node name task program. refl) (λ node name task program. refl)
-    (node_is x.node) (identifier_is x.name) (option_is identifier_way identifier_is x.task) (identifier_is x.program)
+    at4 program_line_way
+    (λ node name task program. record
+    { node = node; name = name; task = task; program = program })
+    (λ node name task program c. refl) (λ node name task program. refl)
+    (λ node name task program. refl)
+    (node_is x.node) (identifier_is x.name) (option_is identifier_way identifier_is x.task)
+    (identifier_is x.program)
 
 abbrev pub tasks_way : Way Tasks
 tasks_way = record { counts = counted_tasks; nodes = nodes_of_tasks; bare = bare_tasks }
@@ -152,21 +169,30 @@ resource_way = record { counts = counted_resource; nodes = nodes_of_resource; ba
 
 pub resource_is : (x : Resource) → IsCounted resource_way x
 resource_is x =
-    at5 resource_way (λ node name kind globals tasks. record { node = node; name = name; kind = kind; globals = globals; tasks = tasks })
-    (λ node name kind globals tasks c. refl) (λ node name kind globals tasks. refl) (λ node name kind globals tasks. refl)
-    (node_is x.node) (identifier_is x.name) (identifier_is x.kind) (each_is globals_way globals_is x.globals) (tasks_is x.tasks)
+    at5 resource_way
+    (λ node name kind globals tasks. record
+    { node = node; name = name; kind = kind; globals = globals; tasks = tasks })
+    (λ node name kind globals tasks c. refl) (λ node name kind globals tasks. refl)
+    (λ node name kind globals tasks. refl)
+    (node_is x.node) (identifier_is x.name) (identifier_is x.kind)
+    (each_is globals_way globals_is x.globals) (tasks_is x.tasks)
 
 abbrev pub config_way : Way Config
 config_way = record { counts = counted_config; nodes = nodes_of_config; bare = bare_config }
 
 pub config_is : (x : Config) → IsCounted config_way x
 config_is x =
-    at5 config_way (λ node name globals resources tasks. record { node = node; name = name; globals = globals; resources = resources; tasks = tasks })
-    (λ node name globals resources tasks c. refl) (λ node name globals resources tasks. refl) (λ node name globals resources tasks. refl)
-    (node_is x.node) (identifier_is x.name) (each_is globals_way globals_is x.globals) (each_is resource_way resource_is x.resources) (tasks_is x.tasks)
+    at5 config_way
+    (λ node name globals resources tasks. record
+    { node = node; name = name; globals = globals; resources = resources; tasks = tasks })
+    (λ node name globals resources tasks c. refl) (λ node name globals resources tasks. refl)
+    (λ node name globals resources tasks. refl)
+    (node_is x.node) (identifier_is x.name) (each_is globals_way globals_is x.globals)
+    (each_is resource_way resource_is x.resources) (tasks_is x.tasks)
 
 abbrev pub file_part_way : Way FilePart
-file_part_way = record { counts = counted_file_part; nodes = nodes_of_file_part; bare = bare_file_part }
+file_part_way =
+    record { counts = counted_file_part; nodes = nodes_of_file_part; bare = bare_file_part }
 
 pub file_part_is : (x : FilePart) → IsCounted file_part_way x
 file_part_is (FilePart.Unit unit) =

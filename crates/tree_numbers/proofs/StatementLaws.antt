@@ -57,7 +57,9 @@ label_is x =
     (node_is x.node) (point_is x.first) (option_is point_way point_is x.last)
 
 abbrev pub stmt_argument_way : Way StmtArgument
-stmt_argument_way = record { counts = counted_stmt_argument; nodes = nodes_of_stmt_argument; bare = bare_stmt_argument }
+stmt_argument_way =
+    record
+    { counts = counted_stmt_argument; nodes = nodes_of_stmt_argument; bare = bare_stmt_argument }
 
 pub stmt_argument_is : (x : StmtArgument) → IsCounted stmt_argument_way x
 stmt_argument_is (StmtArgument.Input node name value) =
@@ -74,9 +76,13 @@ counter_way = record { counts = counted_counter; nodes = nodes_of_counter; bare 
 
 pub counter_is : (x : Counter) → IsCounted counter_way x
 counter_is x =
-    at4 counter_way (λ variable first last step. record { variable = variable; first = first; last = last; step = step })
-    (λ variable first last step c. refl) (λ variable first last step. refl) (λ variable first last step. refl)
-    (identifier_is x.variable) (expr_is x.first) (expr_is x.last) (option_is expr_way expr_is x.step)
+    at4 counter_way
+    (λ variable first last step. record
+    { variable = variable; first = first; last = last; step = step })
+    (λ variable first last step c. refl) (λ variable first last step. refl)
+    (λ variable first last step. refl)
+    (identifier_is x.variable) (expr_is x.first) (expr_is x.last)
+    (option_is expr_way expr_is x.step)
 
 abbrev pub stmt_way : Way Stmt
 stmt_way = record { counts = counted_stmt; nodes = nodes_of_stmt; bare = bare_stmt }
@@ -88,9 +94,11 @@ abbrev pub case_way : Way Case
 case_way = record { counts = counted_case; nodes = nodes_of_case; bare = bare_case }
 
 -- statements with an ELSE or without
-rolled_if_form : (node : Node) (branches : List Branch) (otherwise : Option (List Stmt)) (c : Counting) →
+rolled_if_form : (node : Node) (branches : List Branch) (otherwise : Option (List Stmt))
+    (c : Counting) →
     counted_stmt (stmt.If node branches otherwise) c
-    ≡ turn3 stmt.If (counted node) (each (map counted_branch branches)) ((option_way (each_way stmt_way)).counts otherwise) c
+    ≡ turn3 stmt.If (counted node) (each (map counted_branch branches))
+    ((option_way (each_way stmt_way)).counts otherwise) c
 unfolding roll-Stmt Carrier.roll
 rolled_if_form node branches None c = rolled_stmt (Stmt-F.If node branches None) c
 rolled_if_form node branches (Some body) c = rolled_stmt (Stmt-F.If node branches (Some body)) c
@@ -100,102 +108,141 @@ rolled_bare_if_form : (node : Node) (branches : List Branch) (otherwise : Option
     ≡ stmt.If (bare_node node) (map bare_branch branches) (option_map (map bare_stmt) otherwise)
 unfolding roll-Stmt Carrier.roll
 rolled_bare_if_form node branches None = rolled_bare_stmt (Stmt-F.If node branches None)
-rolled_bare_if_form node branches (Some body) = rolled_bare_stmt (Stmt-F.If node branches (Some body))
+rolled_bare_if_form node branches (Some body) =
+    rolled_bare_stmt (Stmt-F.If node branches (Some body))
 
-rolled_case_form : (node : Node) (selector : Expr) (cases : List Case) (otherwise : Option (List Stmt)) (c : Counting) →
+rolled_case_form : (node : Node) (selector : Expr) (cases : List Case)
+    (otherwise : Option (List Stmt)) (c : Counting) →
     counted_stmt (stmt.Case node selector cases otherwise) c
-    ≡ turn4 stmt.Case (counted node) (counted_expr selector) (each (map counted_case cases)) ((option_way (each_way stmt_way)).counts otherwise) c
+    ≡ turn4 stmt.Case (counted node) (counted_expr selector) (each (map counted_case cases))
+    ((option_way (each_way stmt_way)).counts otherwise) c
 unfolding roll-Stmt Carrier.roll
 rolled_case_form node selector cases None c = rolled_stmt (Stmt-F.Case node selector cases None) c
-rolled_case_form node selector cases (Some body) c = rolled_stmt (Stmt-F.Case node selector cases (Some body)) c
+rolled_case_form node selector cases (Some body) c =
+    rolled_stmt (Stmt-F.Case node selector cases (Some body)) c
 
-rolled_bare_case_form : (node : Node) (selector : Expr) (cases : List Case) (otherwise : Option (List Stmt)) →
+rolled_bare_case_form : (node : Node) (selector : Expr) (cases : List Case)
+    (otherwise : Option (List Stmt)) →
     bare_stmt (stmt.Case node selector cases otherwise)
-    ≡ stmt.Case (bare_node node) (bare_expr selector) (map bare_case cases) (option_map (map bare_stmt) otherwise)
+    ≡ stmt.Case (bare_node node) (bare_expr selector) (map bare_case cases)
+    (option_map (map bare_stmt) otherwise)
 unfolding roll-Stmt Carrier.roll
-rolled_bare_case_form node selector cases None = rolled_bare_stmt (Stmt-F.Case node selector cases None)
-rolled_bare_case_form node selector cases (Some body) = rolled_bare_stmt (Stmt-F.Case node selector cases (Some body))
+rolled_bare_case_form node selector cases None =
+    rolled_bare_stmt (Stmt-F.Case node selector cases None)
+rolled_bare_case_form node selector cases (Some body) =
+    rolled_bare_stmt (Stmt-F.Case node selector cases (Some body))
 
 -- layers of trees with what numbering does to them, and the same layers without it
 abbrev HeldStmt : Type 0
 HeldStmt = Stmt-F (Held stmt_way) (Held branch_way) (Held case_way)
 
 abbrev plain_stmt : HeldStmt → Stmt-F Stmt Branch Case
-plain_stmt y = map-Stmt (Held stmt_way) (Held branch_way) (Held case_way) Stmt Branch Case (λ e. e.0) (λ e. e.0) (λ e. e.0) y
+plain_stmt y =
+    map-Stmt (Held stmt_way) (Held branch_way) (Held case_way) Stmt Branch Case (λ e. e.0)
+    (λ e. e.0) (λ e. e.0) y
 
 abbrev HeldBranch : Type 0
 HeldBranch = Branch-F (Held stmt_way) (Held branch_way) (Held case_way)
 
 abbrev plain_branch : HeldBranch → Branch-F Stmt Branch Case
-plain_branch y = map-Branch (Held stmt_way) (Held branch_way) (Held case_way) Stmt Branch Case (λ e. e.0) (λ e. e.0) (λ e. e.0) y
+plain_branch y =
+    map-Branch (Held stmt_way) (Held branch_way) (Held case_way) Stmt Branch Case (λ e. e.0)
+    (λ e. e.0) (λ e. e.0) y
 
 abbrev HeldCase : Type 0
 HeldCase = Case-F (Held stmt_way) (Held branch_way) (Held case_way)
 
 abbrev plain_case : HeldCase → Case-F Stmt Branch Case
-plain_case y = map-Case (Held stmt_way) (Held branch_way) (Held case_way) Stmt Branch Case (λ e. e.0) (λ e. e.0) (λ e. e.0) y
+plain_case y =
+    map-Case (Held stmt_way) (Held branch_way) (Held case_way) Stmt Branch Case (λ e. e.0)
+    (λ e. e.0) (λ e. e.0) y
 
 stmt_layer_is : (y : HeldStmt) → IsCounted stmt_way (roll-Stmt (plain_stmt y))
 unfolding roll-Stmt Carrier.roll
 stmt_layer_is (Stmt-F.Assign node target value) =
     at3 stmt_way stmt.Assign
-    (λ node target value c. rolled_stmt (Stmt-F.Assign node target value) c) (λ node target value. of_assign node target value) (λ node target value. rolled_bare_stmt (Stmt-F.Assign node target value))
+    (λ node target value c. rolled_stmt (Stmt-F.Assign node target value) c)
+    (λ node target value. of_assign node target value)
+    (λ node target value. rolled_bare_stmt (Stmt-F.Assign node target value))
     (node_is node) (path_is target) (expr_is value)
 stmt_layer_is (Stmt-F.Call node name arguments) =
     at3 stmt_way stmt.Call
-    (λ node name arguments c. rolled_stmt (Stmt-F.Call node name arguments) c) (λ node name arguments. of_call_stmt node name arguments) (λ node name arguments. rolled_bare_stmt (Stmt-F.Call node name arguments))
+    (λ node name arguments c. rolled_stmt (Stmt-F.Call node name arguments) c)
+    (λ node name arguments. of_call_stmt node name arguments)
+    (λ node name arguments. rolled_bare_stmt (Stmt-F.Call node name arguments))
     (node_is node) (identifier_is name) (each_is stmt_argument_way stmt_argument_is arguments)
 stmt_layer_is (Stmt-F.Return node) =
     at1 stmt_way stmt.Return
-    (λ node c. rolled_stmt (Stmt-F.Return node) c) (λ node. of_return node) (λ node. rolled_bare_stmt (Stmt-F.Return node))
+    (λ node c. rolled_stmt (Stmt-F.Return node) c) (λ node. of_return node)
+    (λ node. rolled_bare_stmt (Stmt-F.Return node))
     (node_is node)
 stmt_layer_is (Stmt-F.Exit node) =
     at1 stmt_way stmt.Exit
-    (λ node c. rolled_stmt (Stmt-F.Exit node) c) (λ node. of_exit node) (λ node. rolled_bare_stmt (Stmt-F.Exit node))
+    (λ node c. rolled_stmt (Stmt-F.Exit node) c) (λ node. of_exit node)
+    (λ node. rolled_bare_stmt (Stmt-F.Exit node))
     (node_is node)
 stmt_layer_is (Stmt-F.Continue node) =
     at1 stmt_way stmt.Continue
-    (λ node c. rolled_stmt (Stmt-F.Continue node) c) (λ node. of_continue node) (λ node. rolled_bare_stmt (Stmt-F.Continue node))
+    (λ node c. rolled_stmt (Stmt-F.Continue node) c) (λ node. of_continue node)
+    (λ node. rolled_bare_stmt (Stmt-F.Continue node))
     (node_is node)
 stmt_layer_is (Stmt-F.If node branches None) =
     at3 stmt_way stmt.If
-    (λ node branches otherwise c. rolled_if_form node branches otherwise c) (λ node branches otherwise. of_if node branches otherwise) (λ node branches otherwise. rolled_bare_if_form node branches otherwise)
+    (λ node branches otherwise c. rolled_if_form node branches otherwise c)
+    (λ node branches otherwise. of_if node branches otherwise)
+    (λ node branches otherwise. rolled_bare_if_form node branches otherwise)
     (node_is node) (each_held branch_way branches) (option_held stmt_way None)
 stmt_layer_is (Stmt-F.If node branches (Some body)) =
     at3 stmt_way stmt.If
-    (λ node branches otherwise c. rolled_if_form node branches otherwise c) (λ node branches otherwise. of_if node branches otherwise) (λ node branches otherwise. rolled_bare_if_form node branches otherwise)
+    (λ node branches otherwise c. rolled_if_form node branches otherwise c)
+    (λ node branches otherwise. of_if node branches otherwise)
+    (λ node branches otherwise. rolled_bare_if_form node branches otherwise)
     (node_is node) (each_held branch_way branches) (option_held stmt_way (Some body))
 stmt_layer_is (Stmt-F.Case node selector cases None) =
     at4 stmt_way stmt.Case
-    (λ node selector cases otherwise c. rolled_case_form node selector cases otherwise c) (λ node selector cases otherwise. of_case_stmt node selector cases otherwise) (λ node selector cases otherwise. rolled_bare_case_form node selector cases otherwise)
+    (λ node selector cases otherwise c. rolled_case_form node selector cases otherwise c)
+    (λ node selector cases otherwise. of_case_stmt node selector cases otherwise)
+    (λ node selector cases otherwise. rolled_bare_case_form node selector cases otherwise)
     (node_is node) (expr_is selector) (each_held case_way cases) (option_held stmt_way None)
 stmt_layer_is (Stmt-F.Case node selector cases (Some body)) =
     at4 stmt_way stmt.Case
-    (λ node selector cases otherwise c. rolled_case_form node selector cases otherwise c) (λ node selector cases otherwise. of_case_stmt node selector cases otherwise) (λ node selector cases otherwise. rolled_bare_case_form node selector cases otherwise)
+    (λ node selector cases otherwise c. rolled_case_form node selector cases otherwise c)
+    (λ node selector cases otherwise. of_case_stmt node selector cases otherwise)
+    (λ node selector cases otherwise. rolled_bare_case_form node selector cases otherwise)
     (node_is node) (expr_is selector) (each_held case_way cases) (option_held stmt_way (Some body))
 stmt_layer_is (Stmt-F.For node counter body) =
     at3 stmt_way stmt.For
-    (λ node counter body c. rolled_stmt (Stmt-F.For node counter body) c) (λ node counter body. of_for node counter body) (λ node counter body. rolled_bare_stmt (Stmt-F.For node counter body))
+    (λ node counter body c. rolled_stmt (Stmt-F.For node counter body) c)
+    (λ node counter body. of_for node counter body)
+    (λ node counter body. rolled_bare_stmt (Stmt-F.For node counter body))
     (node_is node) (counter_is counter) (each_held stmt_way body)
 stmt_layer_is (Stmt-F.While node condition body) =
     at3 stmt_way stmt.While
-    (λ node condition body c. rolled_stmt (Stmt-F.While node condition body) c) (λ node condition body. of_while node condition body) (λ node condition body. rolled_bare_stmt (Stmt-F.While node condition body))
+    (λ node condition body c. rolled_stmt (Stmt-F.While node condition body) c)
+    (λ node condition body. of_while node condition body)
+    (λ node condition body. rolled_bare_stmt (Stmt-F.While node condition body))
     (node_is node) (expr_is condition) (each_held stmt_way body)
 stmt_layer_is (Stmt-F.Repeat node body condition) =
     at3 stmt_way stmt.Repeat
-    (λ node body condition c. rolled_stmt (Stmt-F.Repeat node body condition) c) (λ node body condition. of_repeat node body condition) (λ node body condition. rolled_bare_stmt (Stmt-F.Repeat node body condition))
+    (λ node body condition c. rolled_stmt (Stmt-F.Repeat node body condition) c)
+    (λ node body condition. of_repeat node body condition)
+    (λ node body condition. rolled_bare_stmt (Stmt-F.Repeat node body condition))
     (node_is node) (each_held stmt_way body) (expr_is condition)
 
 branch_layer_is : (y : HeldBranch) → IsCounted branch_way (roll-Branch (plain_branch y))
 branch_layer_is y = rw (rolls-Branch' (plain_branch y))
     (at2 branch_way (λ condition body. record { condition = condition; body = body })
-    (λ condition body c. rolled_branch (record { condition = condition; body = body }) c) (λ condition body. of_branch condition body) (λ condition body. rolled_bare_branch (record { condition = condition; body = body }))
+    (λ condition body c. rolled_branch (record { condition = condition; body = body }) c)
+    (λ condition body. of_branch condition body)
+    (λ condition body. rolled_bare_branch (record { condition = condition; body = body }))
     (expr_is y.condition) (each_held stmt_way y.body))
 
 case_layer_is : (y : HeldCase) → IsCounted case_way (roll-Case (plain_case y))
 case_layer_is y = rw (rolls-Case' (plain_case y))
     (at2 case_way (λ labels body. record { labels = labels; body = body })
-    (λ labels body c. rolled_case (record { labels = labels; body = body }) c) (λ labels body. of_case labels body) (λ labels body. rolled_bare_case (record { labels = labels; body = body }))
+    (λ labels body c. rolled_case (record { labels = labels; body = body }) c)
+    (λ labels body. of_case labels body)
+    (λ labels body. rolled_bare_case (record { labels = labels; body = body }))
     (each_is label_way label_is y.labels) (each_held stmt_way y.body))
 
 pub stmt_is : (x : Stmt) → IsCounted stmt_way x

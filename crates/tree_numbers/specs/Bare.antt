@@ -1,5 +1,5 @@
--- A tree with the number of each node set to 0: what is spelled, before its nodes are numbered. Source:
--- this profile. The code makes no such tree.
+-- A tree with the number of each node set to 0: what is spelled, before its nodes are numbered.
+-- Source: this profile. The code makes no such tree.
 use Rattle.std.specs.Prelude.{List, map}
 use Rattle.std.specs.Option.{option_map}
 use Rattle.st_tree.specs.declared.node.Node.{Node}

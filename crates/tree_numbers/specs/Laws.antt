@@ -23,7 +23,8 @@ SameParts =
     (comments : List ℕ) (parts : List FilePart) →
     bare_parts (numbered_parts comments parts) ≡ bare_parts parts
 
--- Their nodes are those of the parts, in their order, each with the number that the nodes and comments before it give.
+-- Their nodes are those of the parts, in their order, each with the number that the nodes and
+-- comments before it give.
 abbrev pub RightNumbers : Type 0
 RightNumbers =
     (comments : List ℕ) (parts : List FilePart) (k : ℕ) →

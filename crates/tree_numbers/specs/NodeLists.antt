@@ -1,6 +1,6 @@
--- The nodes of a tree as a list: an outer node before those within it, and these in the order of the
--- text. Source: this profile. The code makes no such list; it gives each node its number where it
--- stands.
+-- The nodes of a tree as a list: an outer node before those within it, and these in the order of
+-- the text. Source: this profile. The code makes no such list; it gives each node its number where
+-- it stands.
 use Rattle.std.specs.Prelude.{List, [], ◌∷◌, ◌++◌, flat_map, Option, Some, None}
 use Rattle.st_tree.specs.declared.node.Node.{Node}
 use Rattle.st_tree.specs.declared.expression.Identifier.{Identifier}
@@ -144,7 +144,8 @@ stmt_nodes (Stmt-F.Call node name arguments) =
 stmt_nodes (Stmt-F.Return node) = node ∷ []
 stmt_nodes (Stmt-F.Exit node) = node ∷ []
 stmt_nodes (Stmt-F.Continue node) = node ∷ []
-stmt_nodes (Stmt-F.If node branches otherwise) = node ∷ (joined branches ++ nodes_if joined otherwise)
+stmt_nodes (Stmt-F.If node branches otherwise) =
+    node ∷ (joined branches ++ nodes_if joined otherwise)
 stmt_nodes (Stmt-F.Case node selector branches otherwise) =
     node ∷ (nodes_of_expr selector ++ (joined branches ++ nodes_if joined otherwise))
 stmt_nodes (Stmt-F.For node counter body) = node ∷ (nodes_of_counter counter ++ joined body)
@@ -206,7 +207,8 @@ unfoldable pub nodes_of_item : Item → List Node
 nodes_of_item = fold-Item (List Node) (List Node) (List Node) init_nodes item_nodes field_nodes
 
 unfoldable pub nodes_of_field : FieldInit → List Node
-nodes_of_field = fold-FieldInit (List Node) (List Node) (List Node) init_nodes item_nodes field_nodes
+nodes_of_field =
+    fold-FieldInit (List Node) (List Node) (List Node) init_nodes item_nodes field_nodes
 
 abbrev pub nodes_of_decl : Decl → List Node
 nodes_of_decl x =
@@ -300,7 +302,8 @@ nodes_of_resource x =
 abbrev pub nodes_of_config : Config → List Node
 nodes_of_config x =
     x.node ∷ (nodes_of_identifier x.name
-    ++ (flat_map nodes_of_globals x.globals ++ (flat_map nodes_of_resource x.resources ++ nodes_of_tasks x.tasks)))
+    ++ (flat_map nodes_of_globals x.globals
+    ++ (flat_map nodes_of_resource x.resources ++ nodes_of_tasks x.tasks)))
 
 abbrev pub nodes_of_file_part : FilePart → List Node
 nodes_of_file_part (FilePart.Unit x) = nodes_of_unit x

@@ -1,5 +1,5 @@
--- Trees with their nodes numbered from 0, in a file whose comments start at these places. The steps give each node its number as the code
--- does; the laws say what that comes to.
+-- Trees with their nodes numbered from 0, in a file whose comments start at these places. The steps
+-- give each node its number as the code does; the laws say what that comes to.
 use Rattle.std.specs.Prelude.{ℕ, List, [], map}
 use Rattle.st_tree.specs.declared.expression.Expr.{Expr}
 use Rattle.st_tree.specs.declared.statement.Stmt.{Stmt}

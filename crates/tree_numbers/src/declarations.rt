@@ -60,7 +60,7 @@ pub(crate) fn number_in_spec(tree: &mut Spec, counting: &mut Counting<'_>) -> Re
 }
 
 #[cycle(init)]
-#[tactic(auto, unfolding(crate::specs::steps::Counted::counted_init, crate::specs::steps::Counted::counted_item, crate::specs::steps::Counted::counted_field))]
+#[tactic(auto, unfolding(crate::specs::steps::Counted::counted_init, crate::specs::steps::Counted::counted_item, crate::specs::steps::Counted::counted_field,))]
 pub(crate) fn number_in_init(tree: &mut Init, counting: &mut Counting<'_>) -> Result<(), NoMemory>
     ensures tree { OnOk result (tree.new ≡ (counted_init tree.old counting.old).0) }
     ensures rest { OnOk result (counting.new ≡ (counted_init tree.old counting.old).1) }
@@ -79,7 +79,7 @@ pub(crate) fn number_in_init(tree: &mut Init, counting: &mut Counting<'_>) -> Re
 }
 
 #[cycle(init)]
-#[tactic(auto, unfolding(crate::specs::steps::Counted::counted_init, crate::specs::steps::Counted::counted_item, crate::specs::steps::Counted::counted_field))]
+#[tactic(auto, unfolding(crate::specs::steps::Counted::counted_init, crate::specs::steps::Counted::counted_item, crate::specs::steps::Counted::counted_field,))]
 fn number_in_item(tree: &mut Item, counting: &mut Counting<'_>) -> Result<(), NoMemory>
     ensures tree { OnOk result (tree.new ≡ (counted_item tree.old counting.old).0) }
     ensures rest { OnOk result (counting.new ≡ (counted_item tree.old counting.old).1) }
@@ -94,7 +94,7 @@ fn number_in_item(tree: &mut Item, counting: &mut Counting<'_>) -> Result<(), No
 }
 
 #[cycle(init)]
-#[tactic(auto, unfolding(crate::specs::steps::Counted::counted_init, crate::specs::steps::Counted::counted_item, crate::specs::steps::Counted::counted_field))]
+#[tactic(auto, unfolding(crate::specs::steps::Counted::counted_init, crate::specs::steps::Counted::counted_item, crate::specs::steps::Counted::counted_field,))]
 fn number_in_field(tree: &mut FieldInit, counting: &mut Counting<'_>) -> Result<(), NoMemory>
     ensures tree { OnOk result (tree.new ≡ (counted_field tree.old counting.old).0) }
     ensures rest { OnOk result (counting.new ≡ (counted_field tree.old counting.old).1) }

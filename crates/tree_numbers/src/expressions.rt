@@ -43,7 +43,7 @@ impl Numbered for Root {
 }
 
 #[cycle(expression)]
-#[tactic(auto, unfolding(crate::specs::steps::Counted::counted_expr, crate::specs::steps::Counted::counted_part, crate::specs::steps::Counted::counted_argument, crate::specs::steps::Counted::counted_path))]
+#[tactic(auto, unfolding(crate::specs::steps::Counted::counted_expr, crate::specs::steps::Counted::counted_part, crate::specs::steps::Counted::counted_argument, crate::specs::steps::Counted::counted_path,))]
 pub(crate) fn number_in_expr(tree: &mut Expr, counting: &mut Counting<'_>) -> Result<(), NoMemory>
     ensures tree { OnOk result (tree.new ≡ (counted_expr tree.old counting.old).0) }
     ensures rest { OnOk result (counting.new ≡ (counted_expr tree.old counting.old).1) }
@@ -81,7 +81,7 @@ pub(crate) fn number_in_expr(tree: &mut Expr, counting: &mut Counting<'_>) -> Re
 }
 
 #[cycle(expression)]
-#[tactic(auto, unfolding(crate::specs::steps::Counted::counted_expr, crate::specs::steps::Counted::counted_part, crate::specs::steps::Counted::counted_argument, crate::specs::steps::Counted::counted_path))]
+#[tactic(auto, unfolding(crate::specs::steps::Counted::counted_expr, crate::specs::steps::Counted::counted_part, crate::specs::steps::Counted::counted_argument, crate::specs::steps::Counted::counted_path,))]
 fn number_in_part(tree: &mut Part, counting: &mut Counting<'_>) -> Result<(), NoMemory>
     ensures tree { OnOk result (tree.new ≡ (counted_part tree.old counting.old).0) }
     ensures rest { OnOk result (counting.new ≡ (counted_part tree.old counting.old).1) }
@@ -96,7 +96,7 @@ fn number_in_part(tree: &mut Part, counting: &mut Counting<'_>) -> Result<(), No
 }
 
 #[cycle(expression)]
-#[tactic(auto, unfolding(crate::specs::steps::Counted::counted_expr, crate::specs::steps::Counted::counted_part, crate::specs::steps::Counted::counted_argument, crate::specs::steps::Counted::counted_path))]
+#[tactic(auto, unfolding(crate::specs::steps::Counted::counted_expr, crate::specs::steps::Counted::counted_part, crate::specs::steps::Counted::counted_argument, crate::specs::steps::Counted::counted_path,))]
 fn number_in_argument(tree: &mut Argument, counting: &mut Counting<'_>) -> Result<(), NoMemory>
     ensures tree { OnOk result (tree.new ≡ (counted_argument tree.old counting.old).0) }
     ensures rest { OnOk result (counting.new ≡ (counted_argument tree.old counting.old).1) }
@@ -107,7 +107,7 @@ fn number_in_argument(tree: &mut Argument, counting: &mut Counting<'_>) -> Resul
 }
 
 #[cycle(expression)]
-#[tactic(auto, unfolding(crate::specs::steps::Counted::counted_expr, crate::specs::steps::Counted::counted_part, crate::specs::steps::Counted::counted_argument, crate::specs::steps::Counted::counted_path))]
+#[tactic(auto, unfolding(crate::specs::steps::Counted::counted_expr, crate::specs::steps::Counted::counted_part, crate::specs::steps::Counted::counted_argument, crate::specs::steps::Counted::counted_path,))]
 pub(crate) fn number_in_path(tree: &mut Path, counting: &mut Counting<'_>) -> Result<(), NoMemory>
     ensures tree { OnOk result (tree.new ≡ (counted_path tree.old counting.old).0) }
     ensures rest { OnOk result (counting.new ≡ (counted_path tree.old counting.old).1) }

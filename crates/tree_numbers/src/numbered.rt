@@ -8,12 +8,14 @@ use crate::numbers::Counting;
 use station_ports::outside::NoMemory;
 use tree_items::{Boxed, Items};
 
-/// A tree whose nodes are numbered in the order of the text, an outer node before the nodes within it.
-pub trait Numbered {
+/// A tree whose nodes are numbered in the order of the text, an outer node before the nodes within
+/// it.
+pub(crate) trait Numbered {
     /// The tree with its nodes numbered, and the counter behind them.
     ghost counted: { Self → Turn Self };
 
-    /// Gives each node its number. NoMemory where one is past 2^32 - 1, or there is none to note a node.
+    /// Gives each node its number. NoMemory where one is past 2^32 - 1, or there is none to note a
+    /// node.
     fn number(&mut self, counting: &mut Counting<'_>) -> Result<(), NoMemory>
         ensures tree { OnOk result (self.new ≡ (counted self.old counting.old).0) }
         ensures rest { OnOk result (counting.new ≡ (counted self.old counting.old).1) };

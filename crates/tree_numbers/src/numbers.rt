@@ -31,7 +31,8 @@ impl<'a> Counting<'a> {
         }
     }
 
-    /// Gives the node the next number. NoMemory where it is past 2^32 - 1, or there is none to note the node.
+    /// Gives the node the next number. NoMemory where it is past 2^32 - 1, or there is none to note
+    /// the node.
     pub(crate) fn number(&mut self, node: &mut Node) -> Result<(), NoMemory>
         ensures node { OnOk result (node.new ≡ (counted node.old self.old).0) }
         ensures rest { OnOk result (self.new ≡ (counted node.old self.old).1) }
@@ -43,7 +44,8 @@ impl<'a> Counting<'a> {
     }
 }
 
-/// The number of a node that so many nodes and comments come before. NoMemory where it is past 2^32 - 1.
+/// The number of a node that so many nodes and comments come before. NoMemory where it is past 2^32
+/// - 1.
 fn number_of(next: usize, before: usize) -> Result<u32, NoMemory>
     ensures { IfOk result (λ n. n ≡ next + before) }
 {
@@ -56,8 +58,9 @@ fn number_of(next: usize, before: usize) -> Result<u32, NoMemory>
     Ok(number as u32)
 }
 
-/// The node with the number that so many of its own kind before it give, and those of the others that start before it: comments for a node,
-/// nodes for a comment. NoMemory where the number is past 2^32 - 1.
+/// The node with the number that so many of its own kind before it give, and those of the others
+/// that start before it: comments for a node, nodes for a comment. NoMemory where the number is
+/// past 2^32 - 1.
 pub fn numbered_node(node: Node, index: usize, others: &Starts<'_>) -> Result<Node, NoMemory>
     ensures { IfOk result (λ n. n ≡ numbered_at others.now index node) }
 {

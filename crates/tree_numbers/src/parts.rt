@@ -45,8 +45,8 @@ fn put_all(tree: &mut SourceTree, last_first: Items<FilePart>) -> Result<(), NoM
     Ok(())
 }
 
-/// The file of these parts, in the order of the text, with its comments and the places of its line feeds.
-/// NoMemory where there is none for it.
+/// The file of these parts, in the order of the text, with its comments and the places of its line
+/// feeds. NoMemory where there is none for it.
 pub fn source_tree(
     alloc: Global,
     parts: Items<FilePart>,

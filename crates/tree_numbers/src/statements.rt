@@ -77,7 +77,7 @@ impl Numbered for Counter {
 }
 
 #[cycle(statement)]
-#[tactic(auto, unfolding(crate::specs::steps::Counted::counted_stmt, crate::specs::steps::Counted::counted_branch, crate::specs::steps::Counted::counted_case))]
+#[tactic(auto, unfolding(crate::specs::steps::Counted::counted_stmt, crate::specs::steps::Counted::counted_branch, crate::specs::steps::Counted::counted_case,))]
 pub(crate) fn number_in_stmt(tree: &mut Stmt, counting: &mut Counting<'_>) -> Result<(), NoMemory>
     ensures tree { OnOk result (tree.new ≡ (counted_stmt tree.old counting.old).0) }
     ensures rest { OnOk result (counting.new ≡ (counted_stmt tree.old counting.old).1) }
@@ -132,7 +132,7 @@ pub(crate) fn number_in_stmt(tree: &mut Stmt, counting: &mut Counting<'_>) -> Re
 }
 
 #[cycle(statement)]
-#[tactic(auto, unfolding(crate::specs::steps::Counted::counted_stmt, crate::specs::steps::Counted::counted_branch, crate::specs::steps::Counted::counted_case))]
+#[tactic(auto, unfolding(crate::specs::steps::Counted::counted_stmt, crate::specs::steps::Counted::counted_branch, crate::specs::steps::Counted::counted_case,))]
 fn number_in_branch(tree: &mut Branch, counting: &mut Counting<'_>) -> Result<(), NoMemory>
     ensures tree { OnOk result (tree.new ≡ (counted_branch tree.old counting.old).0) }
     ensures rest { OnOk result (counting.new ≡ (counted_branch tree.old counting.old).1) }
@@ -142,7 +142,7 @@ fn number_in_branch(tree: &mut Branch, counting: &mut Counting<'_>) -> Result<()
 }
 
 #[cycle(statement)]
-#[tactic(auto, unfolding(crate::specs::steps::Counted::counted_stmt, crate::specs::steps::Counted::counted_branch, crate::specs::steps::Counted::counted_case))]
+#[tactic(auto, unfolding(crate::specs::steps::Counted::counted_stmt, crate::specs::steps::Counted::counted_branch, crate::specs::steps::Counted::counted_case,))]
 fn number_in_case(tree: &mut Case, counting: &mut Counting<'_>) -> Result<(), NoMemory>
     ensures tree { OnOk result (tree.new ≡ (counted_case tree.old counting.old).0) }
     ensures rest { OnOk result (counting.new ≡ (counted_case tree.old counting.old).1) }

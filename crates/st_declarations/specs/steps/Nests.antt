@@ -4,7 +4,7 @@ use Rattle.std.specs.declared.alloc.Global.{Global}
 use denote.Ref.{MutBor}
 use Rattle.token_grammar.specs.declared.cursor.Cursor.{Cursor}
 use Rattle.token_grammar.specs.declared.fault.ParseError.{ParseError}
-use Rattle.token_grammar.specs.Input.{Parser, Reads, view}
+use Rattle.token_grammar.specs.steps.Parsers.{Parser, Reads, view}
 
 -- the function value reads this parser, at this depth of nesting
 pub record Nests {A : Type 0} (parser : ℕ → Parser A) (nest : ℕ) (pre : Global → MutBor Cursor → ℕ

@@ -4,7 +4,7 @@ use Rattle.token_grammar.specs.declared.token.TokenKind.{TokenKind}
 use Rattle.token_grammar.specs.declared.token.TokenKind.TheVariants as k
 use Rattle.token_grammar.specs.Texts.{Lexeme}
 use Rattle.token_grammar.specs.declared.fault.ParseError.TheVariants.{TooDeep}
-use Rattle.token_grammar.specs.Input.{Parser, ◌>>=◌, pure, take, enter, scoped, node, choose, repeated, sees_in, sees_two, sees_three}
+use Rattle.token_grammar.specs.steps.Parsers.{Parser, ◌>>=◌, pure, take, enter, scoped, node, choose, repeated, sees_in, sees_two, sees_three}
 use Rattle.iec_tables.specs.declared.elem.Elem.{Elem}
 use Rattle.iec_tables.specs.declared.elem.Elem.TheVariants as e
 use Rattle.st_tree.specs.declared.expression.Identifier.{Identifier}

@@ -4,7 +4,7 @@ use Rattle.std.specs.declared.alloc.Global.{Global}
 use denote.Ref.{MutBor}
 use Rattle.token_grammar.specs.declared.cursor.Cursor.{Cursor}
 use Rattle.token_grammar.specs.declared.fault.ParseError.{ParseError}
-use Rattle.token_grammar.specs.Input.{Reads, view}
+use Rattle.token_grammar.specs.steps.Parsers.{Reads, view}
 use Rattle.st_tree.specs.declared.expression.Expr.{Expr}
 use Rattle.st_expr.specs.steps.Parse.{nested}
 

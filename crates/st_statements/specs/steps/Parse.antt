@@ -3,7 +3,7 @@ use Rattle.std.specs.Prelude.{ℕ, zero, suc, Bool, true, false, ◌||◌, List,
 use Rattle.token_grammar.specs.declared.fault.ParseError.TheVariants.{TooDeep}
 use Rattle.token_grammar.specs.declared.token.TokenKind.TheVariants as k
 use Rattle.token_grammar.specs.Texts.{Lexeme}
-use Rattle.token_grammar.specs.Input.{Parser, ◌>>=◌, pure, take, enter, scoped, node, choose, repeated, sees_in}
+use Rattle.token_grammar.specs.steps.Parsers.{Parser, ◌>>=◌, pure, take, enter, scoped, node, choose, repeated, sees_in}
 use Rattle.st_tree.specs.declared.expression.Identifier.{Identifier}
 use Rattle.st_tree.specs.declared.expression.Expr.{Expr}
 use Rattle.st_tree.specs.declared.statement.Stmt.{Stmt}
@@ -15,7 +15,8 @@ use Rattle.st_tree.specs.declared.statement.Point.{Point}
 use Rattle.st_tree.specs.declared.statement.Point.TheVariants as point
 use Rattle.st_tree.specs.declared.statement.StmtArgument.{StmtArgument}
 use Rattle.st_expr.specs.steps.Parse.{word, identifier, expression, any_path as path, any_parts as parts, any_located as located}
-use Rattle.st_statements.specs.Trees.{path_from, ArgumentEnding, argument_ended, input_of, output_of, assign_from, call_from, make_assign, make_return, make_exit, make_continue, branch_of, make_if, make_case, make_for, counter_of, make_while, make_repeat, make_point_number, make_point_typed, point_value, single, range_to, Branches, labelled, closed, with_stmt, with_labels}
+use Rattle.st_statements.specs.Trees.{ArgumentEnding, argument_ended, input_of, output_of, make_assign, make_return, make_exit, make_continue, branch_of, make_if, make_case, make_for, counter_of, make_while, make_repeat, make_point_number, make_point_typed, point_value, single, range_to}
+use Rattle.st_statements.specs.steps.ReadTrees.{path_from, assign_from, call_from, Branches, labelled, closed, with_stmt, with_labels}
 
 -- ---- statements that begin with a name
 

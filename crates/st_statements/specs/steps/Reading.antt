@@ -8,7 +8,8 @@ use Rattle.st_tree.specs.declared.expression.Identifier.{Identifier}
 use Rattle.st_tree.specs.declared.statement.Stmt.{Stmt}
 use Rattle.st_tree.specs.declared.statement.Case.{Case}
 use Rattle.st_expr.specs.Grammar.{identifier, parts, located, expression}
-use Rattle.st_statements.specs.Trees.{path_from, assign_from, call_from, make_assign, Branches, labelled, closed, with_stmt, with_labels}
+use Rattle.st_statements.specs.Trees.{make_assign}
+use Rattle.st_statements.specs.steps.ReadTrees.{path_from, assign_from, call_from, Branches, labelled, closed, with_stmt, with_labels}
 use Rattle.st_statements.specs.Grammar.{called, return_stmt, exit_stmt, continue_stmt, value_point, point_behind, labels, labels_behind, choice, counted, while_stmt, repeat_stmt, selection_of}
 
 -- name "(" [ arg { "," arg } ] ")" ";"

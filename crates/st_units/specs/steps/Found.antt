@@ -8,7 +8,7 @@ use Rattle.token_grammar.specs.declared.fault.ParseError.TheVariants.{Memory, Gr
 use Rattle.token_grammar.specs.Texts.{Lexeme}
 use Rattle.token_grammar.specs.Kept.{is_kept, place_at}
 use Rattle.token_grammar.specs.Grammar.{Rule}
-use Rattle.token_grammar.specs.Input.{Input, Parser}
+use Rattle.token_grammar.specs.steps.Parsers.{Input, Parser}
 use Rattle.st_tree.specs.declared.file.FilePart.{FilePart}
 use Rattle.st_units.specs.Files.{IsFile, IsFileFault}
 use Rattle.st_units.specs.Fronts.{words_from, IsAtKept, IsFront, RefusesFront}

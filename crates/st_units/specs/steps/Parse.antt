@@ -4,7 +4,7 @@ use Rattle.token_grammar.specs.declared.token.TokenKind.{TokenKind}
 use Rattle.token_grammar.specs.declared.token.TokenKind.TheVariants as k
 use Rattle.token_grammar.specs.declared.fault.ParseError.TheVariants.{Grammar as Syntax}
 use Rattle.token_grammar.specs.Texts.{Lexeme}
-use Rattle.token_grammar.specs.Input.{Parser, ◌>>=◌, pure, take, node, choose, repeated, sees_in}
+use Rattle.token_grammar.specs.steps.Parsers.{Parser, ◌>>=◌, pure, take, node, choose, repeated, sees_in}
 use Rattle.st_tree.specs.declared.file.Body.{Body}
 use Rattle.st_tree.specs.declared.file.Body.TheVariants as body_kind
 use Rattle.st_tree.specs.declared.file.Unit.{Unit as UnitTree}

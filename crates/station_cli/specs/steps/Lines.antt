@@ -1,4 +1,5 @@
--- What the code makes of each alarm and each cell: a step on the way from the code to the definition of a report; its source is the code.
+-- What the code makes of each alarm and each cell: a step on the way from the code to the
+-- definition of a report; its source is the code.
 use Rattle.std.specs.Prelude.{◌≡◌, ℕ, List, [], ◌∷◌, map}
 use Rattle.std.specs.List.{AllZip, Contains}
 use Rattle.interval_domain.specs.Interval.{Interval, Empty, Span}
@@ -31,7 +32,8 @@ pub record IsAlarmOf (hit : Hit) (alarm : Alarm) : Type 0 where
   pub high_is : alarm.high ≡ hit.high
 
 -- the same under its unit and subject, with its place
-pub record IsEntryOf (name text : List ℕ) (tree : SourceTree) (unit : SourceUnit) (hit : Hit) (entry : Entry Alarm) : Type 0 where
+pub record IsEntryOf (name text : List ℕ) (tree : SourceTree) (unit : SourceUnit) (hit : Hit)
+    (entry : Entry Alarm) : Type 0 where
   pub alarm : IsAlarmOf hit entry.item
   pub under : IsUnder unit entry.item
   pub at : ℕ
@@ -40,7 +42,8 @@ pub record IsEntryOf (name text : List ℕ) (tree : SourceTree) (unit : SourceUn
   pub file : entry.file ≡ name
 
 -- one each, in their order
-abbrev pub AreEntriesOf : (name text : List ℕ) → SourceTree → SourceUnit → List Hit → List (Entry Alarm) → Type 0
+abbrev pub AreEntriesOf : (name text : List ℕ) → SourceTree → SourceUnit → List Hit
+    → List (Entry Alarm) → Type 0
 AreEntriesOf name text tree unit hits entries = AllZip (IsEntryOf name text tree unit) hits entries
 
 -- ---- ranges

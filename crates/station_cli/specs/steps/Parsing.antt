@@ -1,4 +1,5 @@
--- What the text of a file is parsed to: a form of the code between its steps, without a source of its own.
+-- What the text of a file is parsed to: a form of the code between its steps, without a source of
+-- its own.
 use Rattle.std.specs.Prelude.{◌≡◌, ◌≤◌, ℕ, List, [], ◌∷◌, length}
 use Rattle.std.specs.List.{Contains}
 use Rattle.st_tree.specs.declared.file.SourceTree.{SourceTree as SourceFile}
@@ -24,8 +25,8 @@ pub record IsAnalysable (text : List ℕ) (tree : SourceTree) : Type 0 where
   pub within : (node : Node) → Contains (nodes_of tree) node → node.start ≤ length text
   pub short : length text ≤ 1048576
 
--- What a text is parsed to: its tree, of the first form, its first fault, or that it is a file of another
--- form.
+-- What a text is parsed to: its tree, of the first form, its first fault, or that it is a file of
+-- another form.
 abbrev pub IsParsed : List ℕ → Parsed → Type 0
 IsParsed text (Tree tree) = IsFormOf text tree × IsAnalysable text tree
 IsParsed text (Fault fault) = IsFaultOf text fault.code fault.at × (fault.at ≤ length text)

@@ -1,5 +1,5 @@
--- Trees whose nodes are numbered one after the other as the code numbers them: a node first, then its
--- parts in the order of the text, each with the counter that the one before it left.
+-- Trees whose nodes are numbered one after the other as the code numbers them: a node first, then
+-- its parts in the order of the text, each with the counter that the one before it left.
 use Rattle.std.specs.Prelude.{ℕ, List, [], ◌∷◌, ◌++◌, length, map}
 use Rattle.std.specs.Option.{option_map}
 use Rattle.st_tree.specs.declared.node.Node.{Node}
@@ -73,7 +73,10 @@ use Rattle.st_tree.specs.declared.file.FilePart.TheVariants as file_part
 
 -- a node with its number, and one node more before the next
 abbrev pub counted : Node → Turn Node
-counted node c = (numbered_at c.comments (length c.starts) node, record { comments = c.comments; starts = c.starts ++ node.start ∷ [] })
+counted node c = (
+  numbered_at c.comments (length c.starts) node,
+  record { comments = c.comments; starts = c.starts ++ node.start ∷ [] },
+)
 
 abbrev pub counted_identifier : Identifier → Turn Identifier
 counted_identifier x = turn1 (λ node. record { node = node; name = x.name }) (counted x.node)
@@ -106,7 +109,8 @@ abbrev pub part_counted : Part-F (Turn Expr) (Turn Part) (Turn Argument) (Turn P
 part_counted (Part-F.Field name) = turn1 part.Field (counted_identifier name)
 part_counted (Part-F.Index node indices) = turn2 part.Index (counted node) (each indices)
 
-abbrev pub argument_counted : Argument-F (Turn Expr) (Turn Part) (Turn Argument) (Turn Path) → Turn Argument
+abbrev pub argument_counted : Argument-F (Turn Expr) (Turn Part) (Turn Argument) (Turn Path) →
+    Turn Argument
 argument_counted x =
     turn3 (λ node name value. record { node = node; name = name; value = value }) (counted x.node)
     (perhaps (option_map counted_identifier x.name)) x.value
@@ -158,7 +162,8 @@ counted_stmt_argument (StmtArgument.Output node name target) =
 abbrev pub counted_counter : Counter → Turn Counter
 counted_counter x =
     turn4
-    (λ variable first last step. record { variable = variable; first = first; last = last; step = step })
+    (λ variable first last step. record
+    { variable = variable; first = first; last = last; step = step })
     (counted_identifier x.variable) (counted_expr x.first) (counted_expr x.last)
     (perhaps (option_map counted_expr x.step))
 
@@ -257,7 +262,8 @@ counted_field =
 abbrev pub counted_decl : Decl → Turn Decl
 counted_decl x =
     turn5
-    (λ node names address spec init. record { node = node; names = names; address = address; spec = spec; init = init })
+    (λ node names address spec init. record
+    { node = node; names = names; address = address; spec = spec; init = init })
     (counted x.node) (each (map counted_identifier x.names))
     (perhaps (option_map counted_address x.address)) (counted_spec x.spec)
     (perhaps (option_map counted_init x.init))
@@ -287,7 +293,8 @@ counted_step_names (StepNames.Several node names) =
 abbrev pub counted_transition : Transition → Turn Transition
 counted_transition x =
     turn5
-    (λ node name from to condition. record { node = node; name = name; from = from; to = to; condition = condition })
+    (λ node name from to condition. record
+    { node = node; name = name; from = from; to = to; condition = condition })
     (counted x.node) (perhaps (option_map counted_identifier x.name)) (counted_step_names x.from)
     (counted_step_names x.to) (counted_expr x.condition)
 
@@ -320,7 +327,8 @@ counted_unit_kind UnitKind.Program = kept unit_kind.Program
 abbrev pub counted_unit : Unit → Turn Unit
 counted_unit x =
     turn5
-    (λ node name kind sections body. record { node = node; name = name; kind = kind; sections = sections; body = body })
+    (λ node name kind sections body. record
+    { node = node; name = name; kind = kind; sections = sections; body = body })
     (counted x.node) (counted_identifier x.name) (counted_unit_kind x.kind)
     (each (map counted_section x.sections)) (counted_body x.body)
 
@@ -376,14 +384,16 @@ counted_tasks x =
 abbrev pub counted_resource : Resource → Turn Resource
 counted_resource x =
     turn5
-    (λ node name kind globals tasks. record { node = node; name = name; kind = kind; globals = globals; tasks = tasks })
+    (λ node name kind globals tasks. record
+    { node = node; name = name; kind = kind; globals = globals; tasks = tasks })
     (counted x.node) (counted_identifier x.name) (counted_identifier x.kind)
     (each (map counted_globals x.globals)) (counted_tasks x.tasks)
 
 abbrev pub counted_config : Config → Turn Config
 counted_config x =
     turn5
-    (λ node name globals resources tasks. record { node = node; name = name; globals = globals; resources = resources; tasks = tasks })
+    (λ node name globals resources tasks. record
+    { node = node; name = name; globals = globals; resources = resources; tasks = tasks })
     (counted x.node) (counted_identifier x.name) (each (map counted_globals x.globals))
     (each (map counted_resource x.resources)) (counted_tasks x.tasks)
 

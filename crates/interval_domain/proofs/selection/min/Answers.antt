@@ -1,9 +1,17 @@
-use Rattle.std.proofs.Common.{◌≡◌, rules}
-use Rattle.interval_domain.specs.Selection.{min_row}
-use Rattle.interval_domain.proofs.Choices.{laws-min}
+use Rattle.std.proofs.Common.{◌∙◌}
+use Rattle.interval_domain.specs.Selection.{least_of, min_row}
+use Rattle.interval_domain.proofs.Choices.{held-min, larger-min}
+use Rattle.interval_domain.proofs.Shapes.{sound-plain-two, grows-plain-two}
 use Rattle.interval_domain.proofs.selection.min.Goals as goal
 
-pub returns-clause-laws : goal.returns-clause-laws
-returns-clause-laws c =
-    let out : c.plain.result.result ≡ min_row c.args.a c.args.b = search rules in
-    laws-min _ _ _ out
+pub returns-clause-raw : goal.returns-clause-raw
+returns-clause-raw c = c.plain.ensures.raw ∙ c.min_bounds.ensures
+
+pub returns-clause-result : goal.returns-clause-result
+returns-clause-result c = c.plain.ensures.result ∙ c.min_bounds.ensures
+
+pub returns-clause-sound : goal.returns-clause-sound
+returns-clause-sound c = sound-plain-two least_of c.args.a c.args.b (min_row c.args.a c.args.b) _ _ (returns-clause-raw c) (returns-clause-result c) (held-min c.args.a c.args.b)
+
+pub returns-clause-monotone : goal.returns-clause-monotone
+returns-clause-monotone c = grows-plain-two min_row c.args.a c.args.b _ _ (returns-clause-raw c) (returns-clause-result c) (larger-min c.args.a c.args.b)

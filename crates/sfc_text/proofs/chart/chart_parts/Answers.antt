@@ -1,6 +1,6 @@
 use Rattle.std.proofs.Common.{rules, arith}
 use Rattle.std.proofs.lemmas.Grind.{common_steps}
-use Rattle.token_grammar.specs.Input.{view, loop, repeated}
+use Rattle.token_grammar.specs.steps.Parsers.{view, loop, repeated}
 use Rattle.token_grammar.proofs.Turns.{one_more, no_more}
 use Rattle.sfc_text.specs.steps.Parse.{chart_parts, more_parts, sees_part}
 use Rattle.sfc_text.proofs.chart.chart_parts.Goals as goal

@@ -1,5 +1,5 @@
 use Rattle.std.proofs.Common.{◌≡◌, ◌-◌}
-use Rattle.token_grammar.specs.Input.{view, loop}
+use Rattle.token_grammar.specs.steps.Parsers.{view, loop}
 use Rattle.sfc_text.specs.steps.Parse.{chart_parts, more_parts, sees_part}
 use Rattle.sfc_text.proofs.chart.chart_parts.Given as goal
 

@@ -1,6 +1,6 @@
 use Rattle.std.proofs.Common.{◌≡◌, ◌-◌}
 use Rattle.token_grammar.specs.declared.token.TokenKind.TheVariants as k
-use Rattle.token_grammar.specs.Input.{view, loop, sees_in}
+use Rattle.token_grammar.specs.steps.Parsers.{view, loop, sees_in}
 use Rattle.sfc_text.specs.steps.Parse.{associations, more_associations}
 use Rattle.sfc_text.proofs.steps.associations.Given as goal
 

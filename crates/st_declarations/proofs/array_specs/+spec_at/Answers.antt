@@ -1,5 +1,5 @@
 use Rattle.std.proofs.Common.{◌≡◌, ap, arith}
-use Rattle.token_grammar.specs.Input.{view}
+use Rattle.token_grammar.specs.steps.Parsers.{view}
 use Rattle.token_grammar.proofs.Turns.{deeper}
 use Rattle.st_declarations.specs.steps.Parse.{spec_within}
 use Rattle.st_declarations.proofs.array_specs.+spec_at.Goals as goal

@@ -1,5 +1,5 @@
 use Rattle.std.proofs.Common.{◌≡◌, ◌-◌}
-use Rattle.token_grammar.specs.Input.{view, loop}
+use Rattle.token_grammar.specs.steps.Parsers.{view, loop}
 use Rattle.st_declarations.specs.steps.Parse.{sections, section, more, sees_section}
 use Rattle.st_declarations.proofs.declarations.sections.Given as goal
 

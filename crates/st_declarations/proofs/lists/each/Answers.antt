@@ -1,6 +1,6 @@
 use Rattle.std.proofs.Common.{rules, arith}
 use Rattle.std.proofs.lemmas.Grind.{common_steps}
-use Rattle.token_grammar.specs.Input.{view, loop, repeated, sees_in}
+use Rattle.token_grammar.specs.steps.Parsers.{view, loop, repeated, sees_in}
 use Rattle.token_grammar.proofs.Turns.{one_more, no_more}
 use Rattle.st_declarations.specs.steps.Parse.{each, more}
 use Rattle.st_declarations.proofs.lists.each.Goals as goal

@@ -1,5 +1,5 @@
 use Rattle.std.proofs.Common.{◌≡◌, ◌-◌}
-use Rattle.token_grammar.specs.Input.{view, loop, sees_in}
+use Rattle.token_grammar.specs.steps.Parsers.{view, loop, sees_in}
 use Rattle.st_declarations.specs.steps.Parse.{each, more}
 use Rattle.st_declarations.proofs.lists.each.Given as goal
 

@@ -1,6 +1,6 @@
 use Rattle.std.proofs.Common.{◌≡◌, ◌-◌}
 use Rattle.token_grammar.specs.declared.token.TokenKind.TheVariants as k
-use Rattle.token_grammar.specs.Input.{view, loop, sees_in}
+use Rattle.token_grammar.specs.steps.Parsers.{view, loop, sees_in}
 use Rattle.st_statements.specs.steps.Parse.{label_list, more_labels}
 use Rattle.st_statements.proofs.labels.label_list.Given as goal
 

@@ -4,7 +4,7 @@ use Rattle.std.proofs.lemmas.List.{length-map}
 use Rattle.token_grammar.specs.declared.token.Token.{Token}
 use Rattle.token_grammar.specs.Texts.{lexeme}
 use Rattle.token_grammar.specs.Kept.{is_kept}
-use Rattle.token_grammar.specs.Input.{view}
+use Rattle.token_grammar.specs.steps.Parsers.{view}
 use Rattle.st_units.proofs.FrontAnswers.{found_ok}
 use Rattle.st_units.proofs.fronts.front.Goals as goal
 

@@ -2,7 +2,7 @@ use Rattle.std.proofs.Common.{◌≡◌, ◌≢◌, List, Ok, Err, subst, ◌∙
 use Rattle.token_grammar.specs.declared.fault.ParseError.TheVariants.{Memory}
 use Rattle.token_grammar.specs.declared.token.Token.{Token}
 use Rattle.token_grammar.specs.Texts.{lexemes}
-use Rattle.token_grammar.specs.Input.{view}
+use Rattle.token_grammar.specs.steps.Parsers.{view}
 use Rattle.token_grammar.specs.Kept.{words_of}
 use Rattle.token_grammar.proofs.Laws.{input}
 use Rattle.st_units.specs.steps.Parse as p

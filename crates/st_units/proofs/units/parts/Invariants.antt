@@ -1,5 +1,5 @@
 use Rattle.std.proofs.Common.{◌≡◌, ◌-◌}
-use Rattle.token_grammar.specs.Input.{view, loop}
+use Rattle.token_grammar.specs.steps.Parsers.{view, loop}
 use Rattle.st_units.specs.steps.Parse.{parts, file_part, sees_file_part}
 use Rattle.st_declarations.specs.steps.Parse.{more}
 use Rattle.st_units.proofs.units.parts.Given as goal

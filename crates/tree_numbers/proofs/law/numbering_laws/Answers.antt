@@ -8,10 +8,15 @@ use Rattle.tree_numbers.proofs.FileLaws.{file_part_way, file_part_is}
 use Rattle.tree_numbers.proofs.law.numbering_laws.Goals as goal
 
 pub returns-clause-same : goal.returns-clause-same
-returns-clause-same c = λ comments parts. (each_is file_part_way file_part_is parts).stays (fresh comments)
+returns-clause-same c =
+    λ comments parts. (each_is file_part_way file_part_is parts).stays (fresh comments)
 
 pub returns-clause-numbers : goal.returns-clause-numbers
 returns-clause-numbers c = λ comments parts k.
-    let all = are_numbered (each_way file_part_way) parts (fresh comments) (each_is file_part_way file_part_is parts) in
+    let all =
+    are_numbered (each_way file_part_way) parts (fresh comments)
+    (each_is file_part_way file_part_is parts) in
     let none : 0 + k ≡ k = omega arith in
-    all.numbers k ∙ ap (λ (n : ℕ). option_map (numbered_at comments n) (slice_get (nodes_of_parts parts) k)) none
+    all.numbers k
+    ∙ ap (λ (n : ℕ). option_map (numbered_at comments n) (slice_get (nodes_of_parts parts) k))
+    none

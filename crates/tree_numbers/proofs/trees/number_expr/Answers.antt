@@ -9,5 +9,6 @@ returns-clause-same c =
 
 pub returns-clause-numbers : goal.returns-clause-numbers
 returns-clause-numbers c =
-    numbered_result expr_way c.args.tree.now c.number.new.self c.args.counting.now c.number.new.counting c.number.result
+    numbered_result expr_way c.args.tree.now c.number.new.self c.args.counting.now
+    c.number.new.counting c.number.result
     (expr_is c.args.tree.now) c.number.ensures.tree c.number.ensures.rest

@@ -9,5 +9,6 @@ returns-clause-same c =
 
 pub returns-clause-numbers : goal.returns-clause-numbers
 returns-clause-numbers c =
-    numbered_result sfc_way c.args.chart.now c.number.new.self c.args.counting.now c.number.new.counting c.number.result
+    numbered_result sfc_way c.args.chart.now c.number.new.self c.args.counting.now
+    c.number.new.counting c.number.result
     (sfc_is c.args.chart.now) c.number.ensures.tree c.number.ensures.rest

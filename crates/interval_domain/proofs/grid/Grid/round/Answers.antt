@@ -1,8 +1,10 @@
-use Rattle.std.proofs.Common.{rules, ◌≡◌, FitsSigned}
+use Rattle.std.proofs.Common.{rules, ◌≡◌, FitsSigned, List, ℤ, subst}
 use Rattle.std.proofs.lemmas.Int.{to_z-of_z}
 use mir.Syntax.{w128}
 use Rattle.interval_domain.specs.Interval.{Span}
+use Rattle.interval_domain.specs.Grid.{IsRounder}
 use Rattle.interval_domain.proofs.Rounding.{rounded-spans, wider-at, grows-at}
+use Rattle.interval_domain.proofs.OnGrid.{on_grid-at, least-at, hulls-at}
 use Rattle.interval_domain.proofs.grid.Grid.round.Goals as goal
 
 pub returns-in-Some-clause-value : goal.returns-in-Some-clause-value
@@ -28,3 +30,18 @@ pub returns-in-Some-clause-larger : goal.returns-in-Some-clause-larger
 returns-in-Some-clause-larger c =
     let value : goal.returns-in-Some-clause-value = returns-in-Some-clause-value in
     grows-at c.args.self.now _ _ (value c)
+
+pub returns-in-Some-clause-on_grid : goal.returns-in-Some-clause-on_grid
+returns-in-Some-clause-on_grid c =
+    let value : goal.returns-in-Some-clause-value = returns-in-Some-clause-value in
+    on_grid-at c.args.self.now _ _ (subst (λ (g : List ℤ). IsRounder g) c.self.view_is c.self.invariant) (value c)
+
+pub returns-in-Some-clause-least : goal.returns-in-Some-clause-least
+returns-in-Some-clause-least c =
+    let value : goal.returns-in-Some-clause-value = returns-in-Some-clause-value in
+    least-at c.args.self.now _ _ (subst (λ (g : List ℤ). IsRounder g) c.self.view_is c.self.invariant) (value c)
+
+pub returns-in-Some-clause-hulls : goal.returns-in-Some-clause-hulls
+returns-in-Some-clause-hulls c =
+    let value : goal.returns-in-Some-clause-value = returns-in-Some-clause-value in
+    hulls-at c.args.self.now _ _ (value c)

@@ -1,5 +1,5 @@
 use Rattle.std.proofs.Common.{◌≡◌, ◌-◌, ◌+◌, Ok}
-use Rattle.token_grammar.specs.Input.{view, loop}
+use Rattle.token_grammar.specs.steps.Parsers.{view, loop}
 use Rattle.st_expr.specs.Trees.{rank_of}
 use Rattle.st_expr.specs.steps.Parse.{nested, level, chain, step, operators, sees_operator}
 use Rattle.st_expr.proofs.expressions.Grammar.+levels.Given as goal

@@ -1,6 +1,6 @@
 use Rattle.std.proofs.Common.{rules, arith}
 use Rattle.std.proofs.lemmas.Grind.{common_steps}
-use Rattle.token_grammar.specs.Input.{view, loop, repeated, sees_in}
+use Rattle.token_grammar.specs.steps.Parsers.{view, loop, repeated, sees_in}
 use Rattle.token_grammar.proofs.Turns.{one_more, no_more}
 use Rattle.token_grammar.specs.declared.token.TokenKind.TheVariants as k
 use Rattle.st_expr.specs.steps.Parse.{nested, exprs, more_exprs}

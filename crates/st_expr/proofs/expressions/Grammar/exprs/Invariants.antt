@@ -1,6 +1,6 @@
 use Rattle.std.proofs.Common.{◌≡◌, ◌-◌}
 use Rattle.token_grammar.specs.declared.token.TokenKind.TheVariants as k
-use Rattle.token_grammar.specs.Input.{view, loop, sees_in}
+use Rattle.token_grammar.specs.steps.Parsers.{view, loop, sees_in}
 use Rattle.st_expr.specs.steps.Parse.{nested, exprs, more_exprs}
 use Rattle.st_expr.proofs.expressions.Grammar.exprs.Given as goal
 

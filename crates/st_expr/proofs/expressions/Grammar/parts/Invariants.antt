@@ -1,5 +1,5 @@
 use Rattle.std.proofs.Common.{◌≡◌, ◌-◌}
-use Rattle.token_grammar.specs.Input.{view, loop}
+use Rattle.token_grammar.specs.steps.Parsers.{view, loop}
 use Rattle.st_expr.specs.steps.Parse.{nested, parts, more_parts, sees_part}
 use Rattle.st_expr.proofs.expressions.Grammar.parts.Given as goal
 

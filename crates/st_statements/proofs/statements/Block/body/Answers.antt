@@ -1,6 +1,6 @@
 use Rattle.std.proofs.Common.{rules, arith}
 use Rattle.std.proofs.lemmas.Grind.{common_steps}
-use Rattle.token_grammar.specs.Input.{view, loop, repeated}
+use Rattle.token_grammar.specs.steps.Parsers.{view, loop, repeated}
 use Rattle.token_grammar.proofs.Turns.{one_more, no_more}
 use Rattle.st_statements.specs.steps.Parse.{nested, body, item, sees_statement}
 use Rattle.st_statements.proofs.statements.Block.body.Goals as goal

@@ -1,5 +1,5 @@
 use Rattle.std.proofs.Common.{◌≡◌, ◌-◌}
-use Rattle.token_grammar.specs.Input.{view, loop}
+use Rattle.token_grammar.specs.steps.Parsers.{view, loop}
 use Rattle.st_statements.specs.steps.Parse.{nested, body, item, sees_statement}
 use Rattle.st_statements.proofs.statements.Block.body.Given as goal
 

@@ -1,6 +1,6 @@
 use Rattle.std.proofs.Common.{rules, arith}
 use Rattle.std.proofs.lemmas.Grind.{common_steps}
-use Rattle.token_grammar.specs.Input.{view, loop, repeated}
+use Rattle.token_grammar.specs.steps.Parsers.{view, loop, repeated}
 use Rattle.token_grammar.proofs.Turns.{one_more, no_more}
 use Rattle.st_statements.specs.steps.Held.{branches_of}
 use Rattle.st_statements.specs.steps.Parse.{nested, case_items, case_item, sees_case_item}

@@ -1,5 +1,5 @@
 use Rattle.std.proofs.Common.{◌≡◌, ◌-◌}
-use Rattle.token_grammar.specs.Input.{view, loop}
+use Rattle.token_grammar.specs.steps.Parsers.{view, loop}
 use Rattle.st_statements.specs.steps.Held.{branches_of}
 use Rattle.st_statements.specs.steps.Parse.{nested, case_items, case_item, sees_case_item}
 use Rattle.st_statements.proofs.statements.Block.case_items.Given as goal

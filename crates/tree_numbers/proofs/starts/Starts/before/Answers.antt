@@ -8,5 +8,7 @@ pub returns : goal.returns
 unfolding before
 returns c =
     let parted = IsPartitionedBy-ltb (λ x. x) _ c.args.place c.self.invariant in
-    let point = IsPartitionPoint-from_clause (λ x. ltb x c.args.place) _ _ c.partition_point.ensures.partitioned parted (λ a r q k. search rules) in
+    let point =
+    IsPartitionPoint-from_clause (λ x. ltb x c.args.place) _ _
+    c.partition_point.ensures.partitioned parted (λ a r q k. search rules) in
     rw (sym c.self.view_is) (count_to (λ x. ltb x c.args.place) _ _ c.partition_point.ensures.bound point)
