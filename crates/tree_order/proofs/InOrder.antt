@@ -28,7 +28,8 @@ use Rattle.tree_numbers.specs.Parts.{unit_of, types_of, globals_of, config_of, f
 use Rattle.st_units.specs.Files.{IsFile}
 use Rattle.st_units.specs.SourceTrees.{is_comment, comments_among, comments_from, starts_of}
 use Rattle.st_units.specs.SourceTrees.{places_of, tree_of}
-use Rattle.tree_order.specs.Order.{nodes_of_tree, number_of, Covers, AreApart, AreNumberedInOrder}
+use Rattle.tree_order.specs.Order.{nodes_of_tree, number_of, Surrounds, AreApart}
+use Rattle.tree_order.specs.Order.{AreNumberedInOrder}
 use Rattle.tree_order.specs.Order.{NodesInOrder}
 use Rattle.tree_order.proofs.Lists.{Among, among_contained, among_either}
 use Rattle.tree_order.proofs.Lists.{among_left, among_right, first_of, same_places, count_append}
@@ -191,11 +192,11 @@ module _ (bytes : ℕ) (nodes ns cs : List Node) (h : Collects nodes ns cs) (m :
         (omega arith) (omega (arith, less, same_length));
   }
     where
-      precedes_either : (a b : Node) → ComesBefore a b → AreApart a b ⊎ Covers a b
+      precedes_either : (a b : Node) → ComesBefore a b → AreApart a b ⊎ Surrounds a b
       precedes_either a b (inl after) = inl (inl after)
       precedes_either a b (inr within) = inr within
 
-      apart_or_within : (a b : Node) → Compared a b → AreApart a b ⊎ Covers a b ⊎ Covers b a
+      apart_or_within : (a b : Node) → Compared a b → AreApart a b ⊎ Surrounds a b ⊎ Surrounds b a
       apart_or_within a b (inl same) =
           inr (inl (
             omega (arith, ap (λ (n : Node). n.start) same),

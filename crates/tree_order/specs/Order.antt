@@ -31,8 +31,8 @@ abbrev pub number_of : Node → ℕ
 number_of node = node.number.0
 
 -- The second stands within the bytes of the first.
-abbrev pub Covers : Node → Node → Type 0
-Covers outer inner = (outer.start ≤ inner.start) × (inner.end ≤ outer.end)
+abbrev pub Surrounds : Node → Node → Type 0
+Surrounds outer inner = (outer.start ≤ inner.start) × (inner.end ≤ outer.end)
 
 -- Their bytes are apart.
 abbrev pub AreApart : Node → Node → Type 0
@@ -44,7 +44,7 @@ pub record AreNumberedInOrder (bytes : ℕ) (nodes : List Node) : Type 0 where
   pub within : (a : Node) → Contains nodes a → (a.start < a.end) × (a.end ≤ bytes)
   -- two of them are apart, or one is within the other;
   pub nested : (a b : Node) → Contains nodes a → Contains nodes b →
-      AreApart a b ⊎ Covers a b ⊎ Covers b a
+      AreApart a b ⊎ Surrounds a b ⊎ Surrounds b a
   -- numbers rise with first bytes;
   pub rising : (a b : Node) → Contains nodes a → Contains nodes b → a.start < b.start →
       number_of a < number_of b
