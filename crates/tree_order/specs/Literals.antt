@@ -1,6 +1,5 @@
 -- The texts in a tree, as those of its numbers, times and addresses, are the texts of tokens.
--- Source:
--- this profile. The code copies the bytes of a token into the tree and cuts no text again.
+-- Source: this profile. The code copies the bytes of a token into the tree and cuts no text again.
 use Rattle.std.specs.Prelude.{◌≡◌, ℕ, List, Contains, Some}
 use Rattle.token_grammar.specs.declared.token.TokenKind.{TokenKind}
 use Rattle.token_grammar.specs.declared.token.Token.{Token}

@@ -1,14 +1,10 @@
 -- The order of the nodes of a tree, in terms of its nodes and their bytes alone. Source: this
--- profile.
--- The code gives each node its number on a way through the tree; nothing here speaks of that way. A
--- list
--- of nodes stands for a collection: it is asked what it contains and how often, never in which
--- order. So
--- an exchange of two parts is refused here, even one that is made in the code and in the list of
--- nodes
--- alike: of the two operands of an operator, numbers no longer rise with first bytes; of a path and
--- its
--- only name, the path no longer comes before what stands within it.
+-- profile. The code gives each node its number on a way through the tree; nothing here speaks of
+-- that way. A list of nodes stands for a collection: it is asked what it contains and how often,
+-- never in which order. So an exchange of two parts is refused here, even one that is made in the
+-- code and in the list of nodes alike: of the two operands of an operator, numbers no longer rise
+-- with first bytes; of a path and its only name, the path no longer comes before what stands within
+-- it.
 use Rattle.std.specs.Prelude.{◌≡◌, ◌⊎◌, ℕ, ◌<◌, ◌≤◌, List, ◌++◌, map, length, Contains, count_by}
 use Rattle.std.specs.Prelude.{flat_map, nat_eq, Some}
 use Rattle.st_tree.specs.declared.node.Node.{Node}

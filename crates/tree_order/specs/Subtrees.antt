@@ -1,8 +1,6 @@
 -- What stands in a tree: of a tree of each kind its own node, if it has one; the text of the token
--- that
--- it is made of, if it is made of one; and the trees directly within it. Source: this profile. The
--- code
--- has no such type; it descends from type to type.
+-- that it is made of, if it is made of one; and the trees directly within it. Source: this profile.
+-- The code has no such type; it descends from type to type.
 use Rattle.std.specs.Prelude.{◌≡◌, ◌⊎◌, ℕ, List, [], ◌∷◌, ◌++◌, map, Contains, Option, Some, None}
 use Rattle.token_grammar.specs.declared.token.TokenKind.{TokenKind}
 use Rattle.token_grammar.specs.declared.token.TokenKind.TheVariants as k
