@@ -57,9 +57,10 @@ fn cap_and_ties(rt: HostRuntime) -> Result<(), Fail> {
 
 fn thousands(alloc: Global) -> Result<Vec<i128>, AllocError> {
     let mut literals = Vec::new(alloc);
-    for thousand in 1..401 {
-        literals.push(1000 * thousand)?;
-        literals.push(-1000 * thousand)?;
+    for thousand in 1..401u32 {
+        let literal = 1000 * i128::from(thousand);
+        literals.push(literal)?;
+        literals.push(-literal)?;
     }
     Ok(literals)
 }
