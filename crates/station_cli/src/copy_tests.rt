@@ -1,18 +1,13 @@
 // Copies of trees and of the code of tasks: that each is made where there is memory. That a copy equals its source is proved.
-ghost use Rattle.std.specs.Prelude.{◌≡◌};
-
+use crate::tree_tests::has_copied_tree;
 use iec_tables::elem::Elem;
 use st_tree::{
     Argument, Branch, Case, Cell, CellInfo, Code, Component, Expr, FieldInit, FilePart, Identifier,
     Init, Item, Node, NodeNo, Number, Operation, Operator, Part, Site, TaskCode, Types,
 };
-use st_units::parse_file;
 use station_ports::outside::NoMemory;
-use station_ports::steps::Steps;
 use station_ports::texts::Name;
 use std::alloc::Global;
-use std::marker::Brand;
-use std::sync::ledger::{Blank, Ledger};
 use tree_copies::{Copied, copy_code, copy_component, copy_task_code};
 use tree_items::{Boxed, Items};
 
@@ -36,19 +31,9 @@ const TEXT: &str = "TYPE T : INT (0 .. 9) := 1; E : (A, B); \
     RESOURCE r ON cpu TASK k (INTERVAL := T#1s, PRIORITY := 1); PROGRAM p WITH k : P; END_RESOURCE \
     PROGRAM q : P; END_CONFIGURATION (* end *)\n";
 
-/// Whether the text has a tree, and it is copied.
-fn are_copied<L: Ledger>(rt: &HostRuntime, blank: Blank, text: &[u8]) -> bool
-    requires name { blank.name ≡ L.name }
-    requires parts { blank.parts ≡ L.parts }
-    requires two { blank.parts ≡ 2 }
-{
-    let mut steps = Steps::<L>::new(rt, blank);
-    parse_file(rt.alloc(), text, &mut steps).is_ok_and(|tree| tree.copy(rt.alloc()).is_ok())
-}
-
 #[test]
 fn files_are_copied(rt: HostRuntime) {
-    assert!(rt; are_copied::<Brand>(&rt, Blank::new(2), TEXT.as_bytes()));
+    assert!(rt; has_copied_tree(&rt, TEXT));
 }
 
 /// Whether the tree is made and copied.

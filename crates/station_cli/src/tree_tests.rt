@@ -267,6 +267,12 @@ fn is_taken(alloc: Global, answer: &Result<SourceTree, ParseFault>, fault: &str)
     }
 }
 
+/// Whether a text has a tree that can be copied.
+pub(crate) fn has_copied_tree(rt: &HostRuntime, text: &str) -> bool {
+    let found = parsed_text(rt, text);
+    is_taken(rt.alloc(), &found.result, "")
+}
+
 /// Whether a text has a tree that can be copied, or is refused for this fault, with so many parse steps.
 pub(crate) fn is_tree_of(rt: &HostRuntime, text: &str, fault: &str, steps: u64) -> bool {
     let found = parsed_text(rt, text);
