@@ -4,3 +4,4 @@ pub mod Steady
 pub mod Places
 pub mod Plans
 pub mod Feeds
+pub mod Defaults

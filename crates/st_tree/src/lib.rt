@@ -10,6 +10,7 @@ mod file;
 mod hit;
 mod node;
 mod plan;
+mod settings;
 mod statement;
 
 pub use chart::{Action, Association, Sfc, SfcPart, Step, StepNames, Transition};
@@ -28,4 +29,5 @@ pub use file::{
 pub use hit::Hit;
 pub use node::{Node, NodeNo, Site};
 pub use plan::PlanRefusal;
+pub use settings::{CallerKey, Settings};
 pub use statement::{Branch, Case, Counter, Label, Point, Stmt, StmtArgument};

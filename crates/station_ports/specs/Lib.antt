@@ -2,3 +2,4 @@ pub mod Views
 pub mod Calls
 pub mod Faults
 pub mod Memory
+pub mod Lists

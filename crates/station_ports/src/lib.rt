@@ -2,6 +2,7 @@
 #![tactic(auto)]
 
 mod faults;
+pub mod lists;
 pub mod memory;
 pub mod os;
 pub mod outside;
