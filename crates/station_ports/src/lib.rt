@@ -1,7 +1,7 @@
 // The traits through which everything of the outside is reached, their forms in memory, and thin adapters over the runtime.
 #![tactic(auto)]
 
-mod faults;
+pub mod faults;
 pub mod lists;
 pub mod memory;
 pub mod os;
