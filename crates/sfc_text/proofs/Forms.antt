@@ -1,5 +1,5 @@
 -- The parsers of charts read their grammar.
-use Rattle.std.proofs.Common.{◌≡◌, Bool, List, [], ◌∷◌, ◌++◌, Option, Some, None, refl}
+use Rattle.std.proofs.Common.{◌≡◌, List, [], ◌∷◌, Some, None, refl}
 use Rattle.token_grammar.specs.declared.token.TokenKind.{TokenKind}
 use Rattle.token_grammar.specs.declared.token.TokenKind.TheVariants as k
 use Rattle.token_grammar.specs.Texts.{Lexeme}
@@ -13,7 +13,7 @@ use Rattle.sfc_text.specs.Trees.{make_association, make_step, make_several, make
 use Rattle.sfc_text.specs.Grammar as g
 use Rattle.sfc_text.specs.steps.Parse as p
 use Rattle.st_expr.proofs.Leaves.{form_identifier, level_identifier}
-use Rattle.st_expr.proofs.Operators.{or_is, last_is}
+use Rattle.st_expr.proofs.Operators.{or_is}
 use Rattle.st_expr.proofs.Exactness.{goes_on, form_expression, level_expression}
 use Rattle.st_expr.proofs.Lists.{Here, one_kind, stays, into, exact_each, level_each, exact_last, level_last}
 use Rattle.st_expr.proofs.NameLists.{exact_names}

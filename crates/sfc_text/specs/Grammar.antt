@@ -6,7 +6,6 @@ use Rattle.token_grammar.specs.declared.token.TokenKind.TheVariants as k
 use Rattle.token_grammar.specs.Grammar.{Rule, ◌>>=◌, ◌or◌, give, token, scoped, node, many}
 use Rattle.st_tree.specs.declared.expression.Identifier.{Identifier}
 use Rattle.st_tree.specs.declared.expression.Expr.{Expr}
-use Rattle.st_tree.specs.declared.statement.Stmt.{Stmt}
 use Rattle.st_tree.specs.declared.chart.Association.{Association}
 use Rattle.st_tree.specs.declared.chart.Step.{Step}
 use Rattle.st_tree.specs.declared.chart.StepNames.{StepNames}

@@ -5,7 +5,7 @@ ghost use Rattle.token_grammar.specs.steps.Parsers.{Reads, view};
 ghost use Rattle.sfc_text.specs.steps.Parse as spec;
 
 use crate::steps::optional_name;
-use st_expr::{expression, identifier, name_list, node_at};
+use st_expr::{any_expression, identifier, name_list, node_at};
 use st_tree::{Expr, StepNames, Transition};
 use std::alloc::Global;
 use token_grammar::{Cursor, ParseError, TokenKind};
@@ -54,7 +54,7 @@ fn condition(alloc: Global, cursor: &mut Cursor<'_>) -> Result<Boxed<Expr>, Pars
     ensures { Reads (spec.condition (view cursor.old)) result (view cursor.new) }
 {
     cursor.take(TokenKind::Becomes)?;
-    let condition = expression(alloc, cursor)?;
+    let condition = any_expression(alloc, cursor)?;
     cursor.take(TokenKind::Semicolon)?;
     Ok(condition)
 }

@@ -26,7 +26,7 @@ use Rattle.st_declarations.specs.Grammar as g
 use Rattle.st_declarations.specs.steps.Parse as p
 use Rattle.st_expr.specs.Trees.{make_identifier}
 use Rattle.st_expr.specs.Grammar.{expression}
-use Rattle.st_expr.specs.steps.Parse.{expression as read_expression}
+use Rattle.st_expr.specs.steps.Parse.{any_expression as read_expression}
 use Rattle.st_expr.proofs.Leaves.{form_word, level_word, form_identifier, level_identifier}
 use Rattle.st_expr.proofs.Exactness.{firsts, goes_on, form_expression, level_expression}
 use Rattle.st_expr.proofs.Numbers.{LacksTwo, lacks_first, lacks_or, lacks_bind, number_expression, three_bind, three_expression, number_alone, group_begins}

@@ -1,5 +1,5 @@
 -- Rules that nest to a depth, and what nests to a depth among what nests deeper.
-use Rattle.std.proofs.Common.{◌≡◌, ℕ, zero, suc, ◌+◌, ◌<◌, ◌≤◌, List, [], ◌∷◌, arith}
+use Rattle.std.proofs.Common.{ℕ, zero, suc, ◌+◌, ◌<◌, ◌≤◌, List, [], ◌∷◌, arith}
 use Rattle.token_grammar.specs.declared.token.TokenKind.{TokenKind}
 use Rattle.token_grammar.specs.steps.Parsers.{Parser}
 use Rattle.token_grammar.specs.Grammar.{Rule}
@@ -7,7 +7,6 @@ use Rattle.token_grammar.proofs.Laws.{Exact, Some_}
 use Rattle.token_grammar.proofs.Starts.{sees_any, Starts, IsLevel}
 use Rattle.token_grammar.proofs.Forms.{Form, Inner}
 use Rattle.token_grammar.proofs.Same.{SubRule, SameRule, some_of, exact_as, exact_some_of, starts_some_of, sub_self, sub_bind, sub_then, sub_before, sub_or, sub_scoped, sub_node, sub_many, sub_some_of}
-use Rattle.st_tree.specs.declared.declaration.Spec.{Spec}
 use Rattle.st_tree.specs.declared.declaration.Init.{Init}
 use Rattle.st_expr.proofs.Lists.{Here}
 use Rattle.st_declarations.specs.Trees.{make_array, make_elements, make_structure, make_repeated, make_field_init}

@@ -1,12 +1,12 @@
 -- The parsers of type names, lists of names, ranges and specs read their grammar.
-use Rattle.std.proofs.Common.{◌≡◌, ℕ, zero, suc, ◌+◌, ◌<◌, false, List, [], ◌∷◌, ◌++◌, Some, None, refl, inr}
+use Rattle.std.proofs.Common.{◌≡◌, ℕ, zero, suc, ◌<◌, false, List, [], ◌∷◌, Some, None, refl, inr}
 use Rattle.token_grammar.specs.declared.token.TokenKind.{TokenKind}
 use Rattle.token_grammar.specs.declared.token.TokenKind.TheVariants as k
 use Rattle.token_grammar.specs.Texts.{Lexeme}
 use Rattle.token_grammar.specs.steps.Parsers.{Parser, sees_in}
 use Rattle.token_grammar.specs.Grammar.{Rule}
 use Rattle.token_grammar.proofs.Laws.{Exact, Some_}
-use Rattle.token_grammar.proofs.Starts.{sees_any, Starts, Opens, IsLevel, bind_give, starts_bind, starts_or, starts_scoped, starts_node, starts_token, or_false}
+use Rattle.token_grammar.proofs.Starts.{sees_any, Starts, IsLevel, bind_give, starts_bind, starts_or, starts_scoped, starts_node, starts_token, or_false}
 use Rattle.token_grammar.proofs.Forms.{Form, Inner, Anywhere, anywhere, level_carries, form_token, form_take, form_then, form_join, form_as, form_or, form_node, form_scoped, exact_optional, level_bind, level_give, level_or, level_node, level_scoped, level_then}
 use Rattle.iec_tables.specs.declared.elem.Elem.{Elem}
 use Rattle.iec_tables.specs.declared.elem.Elem.TheVariants as e

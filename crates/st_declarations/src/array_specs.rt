@@ -8,7 +8,7 @@ ghost use Rattle.st_declarations.specs.steps.Parse as spec;
 ghost use Rattle.st_declarations.specs.steps.Nests.{Nests};
 
 use crate::type_names::{enumeration, plain_spec, ranges};
-use st_expr::node_at;
+use st_expr::{NEST, node_at};
 use st_tree::{Node, Range, Spec};
 use std::alloc::{AllocError, Global};
 use token_grammar::{Cursor, ParseError, TokenKind};
@@ -91,5 +91,5 @@ fn spec_at(alloc: Global, cursor: &mut Cursor<'_>, nest: usize) -> Result<Spec, 
 pub fn spec(alloc: Global, cursor: &mut Cursor<'_>) -> Result<Spec, ParseError>
     ensures { Reads (spec.spec (view cursor.old)) result (view cursor.new) }
 {
-    spec_at(alloc, cursor, 257)
+    spec_at(alloc, cursor, NEST)
 }

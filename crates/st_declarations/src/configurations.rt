@@ -6,7 +6,7 @@ ghost use Rattle.st_declarations.specs.steps.Parse as spec;
 
 use crate::declarations::GlobalsReader;
 use crate::lists::{Reader, commas, each};
-use st_expr::{expression, identifier, node_at};
+use st_expr::{any_expression, identifier, node_at};
 use st_tree::{Config, Identifier, Parameter, ProgramLine, Resource, Task, Tasks};
 use std::alloc::Global;
 use token_grammar::{Cursor, ParseError, TokenKind};
@@ -20,7 +20,7 @@ fn parameter(alloc: Global, cursor: &mut Cursor<'_>) -> Result<Parameter, ParseE
     let start = cursor.start();
     let name = identifier(alloc, cursor)?;
     cursor.take(TokenKind::Becomes)?;
-    let value = expression(alloc, cursor)?;
+    let value = any_expression(alloc, cursor)?;
     Ok(Parameter {
         node: node_at(start, cursor.last),
         name,

@@ -8,7 +8,7 @@ ghost use Rattle.st_declarations.specs.steps.Parse as spec;
 ghost use Rattle.st_declarations.specs.steps.Nests.{Nests};
 
 use crate::lists::{Reader, commas};
-use st_expr::{expression, identifier, node_at, word};
+use st_expr::{NEST, any_expression, identifier, node_at, word};
 use st_tree::{FieldInit, Init, Item};
 use std::alloc::Global;
 use token_grammar::{Cursor, ParseError, TokenKind};
@@ -141,7 +141,7 @@ impl<F: Fn(Global, &mut Cursor<'_>, usize) -> Result<Init, ParseError>> Values<F
         } else if sees_structure(cursor) {
             self.structure(cursor)
         } else {
-            Ok(Init::Value(expression(self.alloc, cursor)?))
+            Ok(Init::Value(any_expression(self.alloc, cursor)?))
         }
     }
 }
@@ -187,7 +187,7 @@ fn init_at(alloc: Global, cursor: &mut Cursor<'_>, nest: usize) -> Result<Init, 
 pub fn initial(alloc: Global, cursor: &mut Cursor<'_>) -> Result<Init, ParseError>
     ensures { Reads (spec.initial (view cursor.old)) result (view cursor.new) }
 {
-    init_at(alloc, cursor, 257)
+    init_at(alloc, cursor, NEST)
 }
 
 /// `":=" init`

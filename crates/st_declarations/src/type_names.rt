@@ -6,7 +6,7 @@ ghost use Rattle.st_declarations.specs.steps.Parse as spec;
 
 use crate::lists::{Reader, commas};
 use iec_tables::elem::Elem;
-use st_expr::{expression, identifier, name_list, node_at};
+use st_expr::{any_expression, identifier, name_list, node_at};
 use st_tree::{Range, Spec, TypeName};
 use std::alloc::Global;
 use token_grammar::{Cursor, ParseError, TokenKind};
@@ -94,9 +94,9 @@ fn range(alloc: Global, cursor: &mut Cursor<'_>) -> Result<Range, ParseError>
     ensures { Reads (spec.range (view cursor.old)) result (view cursor.new) }
 {
     let start = cursor.start();
-    let lower = expression(alloc, cursor)?;
+    let lower = any_expression(alloc, cursor)?;
     cursor.take(TokenKind::DotDot)?;
-    let upper = expression(alloc, cursor)?;
+    let upper = any_expression(alloc, cursor)?;
     Ok(Range {
         node: node_at(start, cursor.last),
         lower,

@@ -1,5 +1,5 @@
 -- The parser of names with commas between them reads its grammar.
-use Rattle.std.proofs.Common.{List, [], ◌∷◌, ◌++◌, zero, refl}
+use Rattle.std.proofs.Common.{[], ◌∷◌, ◌++◌, zero, refl}
 use Rattle.token_grammar.specs.declared.token.TokenKind.TheVariants as k
 use Rattle.token_grammar.proofs.Laws.{Exact}
 use Rattle.token_grammar.proofs.Starts.{sees_any, IsLevel, Opens, starts_bind}

@@ -357,7 +357,8 @@ impl<F: Fn(Global, &mut Cursor<'_>, usize) -> Result<Boxed<Expr>, ParseError>> G
         }
     }
 
-    /// Operators of the ranks below the level. The first operand is read once, and not again for each rank, so that expressions may nest deep.
+    /// Operators of the ranks below the level. The first operand is read once, and not again for each
+    /// rank, so that expressions may nest deep.
     #[cycle(levels)]
     #[tactic(auto, unfolding(crate::specs::steps::Parse::level))]
     fn level(&self, cursor: &mut Cursor<'_>, level: u8) -> Result<Boxed<Expr>, ParseError>
@@ -418,7 +419,7 @@ impl<F: Fn(Global, &mut Cursor<'_>, usize) -> Result<Boxed<Expr>, ParseError>> G
 }
 
 /// An expression in which expressions nest less deep than the number.
-pub fn expression_at(
+pub(crate) fn expression_at(
     alloc: Global,
     cursor: &mut Cursor<'_>,
     nest: usize,

@@ -7,6 +7,5 @@ mod paths;
 mod rank;
 mod whole;
 
-pub use expressions::expression_at;
 pub use names::{address, identifier, name_list, node_at, word};
-pub use whole::{NEST, expression, located, parts, path};
+pub use whole::{NEST, any_expression, located, parts, path};

@@ -7,15 +7,15 @@ ghost use Rattle.st_expr.specs.steps.Parse as spec;
 use crate::expressions::{Grammar, expression_at};
 use st_tree::{Expr, Part, Path};
 use std::alloc::Global;
-use token_grammar::{Cursor, ParseError};
+use token_grammar::{Cursor, MAX_DEPTH, ParseError};
 use tree_items::{Boxed, Items};
 
 /// How deep expressions and statements nest at most, and one more.
-pub const NEST: usize = 257;
+pub const NEST: usize = MAX_DEPTH + 1;
 
 /// An expression, to any depth.
-pub fn expression(alloc: Global, cursor: &mut Cursor<'_>) -> Result<Boxed<Expr>, ParseError>
-    ensures { Reads (spec.expression (view cursor.old)) result (view cursor.new) }
+pub fn any_expression(alloc: Global, cursor: &mut Cursor<'_>) -> Result<Boxed<Expr>, ParseError>
+    ensures { Reads (spec.any_expression (view cursor.old)) result (view cursor.new) }
 {
     expression_at(alloc, cursor, NEST)
 }

@@ -116,7 +116,7 @@ level_step =
     (level_give None)
 
 exact_last_step : (s : Identifier × Expr)
-    → Exact Shallow (λ i. and_then (e.expression i) (λ last. λ i. and_then (p.step i)
+    → Exact Shallow (λ i. and_then (e.any_expression i) (λ last. λ i. and_then (p.step i)
     (λ by. pure (counter_of s last by)))) (expression_rule >>= λ last. g.step
     >>= λ by. give (counter_of s last by)) (sees_any (k.By ∷ goes_on))
 exact_last_step s = bind {W = Shallow} {more1 = sees_any goes_on} exact_expression
@@ -150,7 +150,7 @@ module _ (n : ℕ) (inner : Parser Stmt) (rule : Rule Stmt) (h : Form (Inner n) 
   into : (d : ℕ) → Inner (suc n) d → d + 1 ≤ 256 → Inner n (d + 1)
   into d v le = (omega (arith, v.0), le)
 
-  form_value_expression : Form (Inner n) e.expression expression_rule firsts goes_on
+  form_value_expression : Form (Inner n) e.any_expression expression_rule firsts goes_on
   form_value_expression = form_narrow form_expression shallow
 
   form_item : (found : List Stmt)

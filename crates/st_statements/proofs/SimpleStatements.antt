@@ -36,33 +36,33 @@ shallow_body d v = omega arith
 
 pub form_path : Form Shallow e.any_path (path_rule expression_rule) (k.Name ∷ k.Address ∷ [])
     part_kinds
-form_path = form_narrow (rules.form_path 257 e.expression expression_rule goes_on firsts
+form_path = form_narrow (rules.form_path 257 e.any_expression expression_rule goes_on firsts
     exact_expression form_expression.starts level_expression names_expression refl refl refl refl
     refl refl refl) shallow_body
 
 pub form_located : Form Shallow e.any_located (located_rule expression_rule) (k.Address ∷ [])
     part_kinds
-form_located = form_narrow (rules.form_located 257 e.expression expression_rule goes_on firsts
+form_located = form_narrow (rules.form_located 257 e.any_expression expression_rule goes_on firsts
     exact_expression form_expression.starts level_expression names_expression refl refl refl refl
     refl refl refl) shallow_body
 
 form_more_parts : (ps : List Part)
-    → Form Shallow (e.more_parts e.expression ps) (more_parts_rule expression_rule ps) part_kinds []
-form_more_parts ps = form_narrow (rules.form_more_parts 257 e.expression expression_rule goes_on
+    → Form Shallow (e.more_parts e.any_expression ps) (more_parts_rule expression_rule ps) part_kinds []
+form_more_parts ps = form_narrow (rules.form_more_parts 257 e.any_expression expression_rule goes_on
     firsts exact_expression form_expression.starts level_expression names_expression refl refl refl
     refl refl refl refl ps) shallow_body
 
 level_more_parts : (ps : List Part) → IsLevel (more_parts_rule expression_rule ps)
-level_more_parts = rules.level_more_parts 257 e.expression expression_rule goes_on firsts
+level_more_parts = rules.level_more_parts 257 e.any_expression expression_rule goes_on firsts
     exact_expression form_expression.starts level_expression names_expression refl refl refl refl
     refl refl refl
 
 level_located : IsLevel (located_rule expression_rule)
-level_located = rules.level_located 257 e.expression expression_rule goes_on firsts exact_expression
+level_located = rules.level_located 257 e.any_expression expression_rule goes_on firsts exact_expression
     form_expression.starts level_expression names_expression refl refl refl refl refl refl refl
 
 level_path : IsLevel (path_rule expression_rule)
-level_path = rules.level_path 257 e.expression expression_rule goes_on firsts exact_expression
+level_path = rules.level_path 257 e.any_expression expression_rule goes_on firsts exact_expression
     form_expression.starts level_expression names_expression refl refl refl refl refl refl refl
 
 -- ---- arguments

@@ -10,7 +10,7 @@ ghost use Rattle.st_statements.specs.steps.Nests.{NestsStatements};
 use crate::labels::{labels, labels_behind, point_behind, value_point};
 use crate::simple::behind_name;
 use crate::statements::{Block, sees_unnamed};
-use st_expr::{expression, identifier, node_at};
+use st_expr::{any_expression, identifier, node_at};
 use st_tree::{Case, Identifier, Label, Stmt};
 use std::alloc::{AllocError, Global};
 use token_grammar::{Cursor, ParseError, TokenKind};
@@ -105,7 +105,8 @@ impl<F: Fn(Global, &mut Cursor<'_>, usize) -> Result<Stmt, ParseError>> Block<F>
         found: Branches,
         name: Identifier,
     ) -> Result<Branches, ParseError>
-        ensures { ReadsAs branches_of (spec.label_case (spec.nested self.now.nest) (branches_of found) name (view cursor.old)) result (view cursor.new) }
+        ensures { ReadsAs branches_of (spec.label_case (spec.nested self.now.nest) (branches_of found) name
+            (view cursor.old)) result (view cursor.new) }
     {
         let first = point_behind(self.alloc, cursor, name)?;
         let labels = labels_behind(self.alloc, cursor, first)?;
@@ -120,7 +121,8 @@ impl<F: Fn(Global, &mut Cursor<'_>, usize) -> Result<Stmt, ParseError>> Block<F>
         found: Branches,
         name: Identifier,
     ) -> Result<Branches, ParseError>
-        ensures { ReadsAs branches_of (spec.case_behind (spec.nested self.now.nest) (branches_of found) name (view cursor.old)) result (view cursor.new) }
+        ensures { ReadsAs branches_of (spec.case_behind (spec.nested self.now.nest) (branches_of found) name
+            (view cursor.old)) result (view cursor.new) }
     {
         if sees_label(cursor) {
             return self.label_case(cursor, found, name);
@@ -132,7 +134,8 @@ impl<F: Fn(Global, &mut Cursor<'_>, usize) -> Result<Stmt, ParseError>> Block<F>
     /// Labels of which the first is no name.
     #[tactic(auto, unfolding(crate::specs::steps::Parse::value_case))]
     fn value_case(&self, cursor: &mut Cursor<'_>, found: Branches) -> Result<Branches, ParseError>
-        ensures { ReadsAs branches_of (spec.value_case (spec.nested self.now.nest) (branches_of found) (view cursor.old)) result (view cursor.new) }
+        ensures { ReadsAs branches_of (spec.value_case (spec.nested self.now.nest) (branches_of found)
+            (view cursor.old)) result (view cursor.new) }
     {
         let first = value_point(self.alloc, cursor)?;
         let labels = labels_behind(self.alloc, cursor, first)?;
@@ -143,7 +146,8 @@ impl<F: Fn(Global, &mut Cursor<'_>, usize) -> Result<Stmt, ParseError>> Block<F>
     #[tactic(auto, unfolding(crate::specs::steps::Parse::case_item))]
     fn case_item(&self, cursor: &mut Cursor<'_>, found: Branches) -> Result<Branches, ParseError>
         requires { NestsStatements self.now.nest (F.pre self.now.statement) (F.post self.now.statement) }
-        ensures { ReadsAs branches_of (spec.case_item (spec.nested self.now.nest) (branches_of found) (view cursor.old)) result (view cursor.new) }
+        ensures { ReadsAs branches_of (spec.case_item (spec.nested self.now.nest) (branches_of found)
+            (view cursor.old)) result (view cursor.new) }
     {
         if cursor.sees(TokenKind::Semicolon) {
             cursor.take(TokenKind::Semicolon)?;
@@ -200,7 +204,7 @@ impl<F: Fn(Global, &mut Cursor<'_>, usize) -> Result<Stmt, ParseError>> Block<F>
         let depth = cursor.depth;
         let start = cursor.start();
         cursor.enter(TokenKind::Case)?;
-        let selector = expression(self.alloc, cursor)?;
+        let selector = any_expression(self.alloc, cursor)?;
         cursor.take(TokenKind::Of)?;
         let found = self.branches(cursor)?;
         let otherwise = self.otherwise(cursor)?;

@@ -5,7 +5,7 @@ ghost use Rattle.token_grammar.specs.steps.Parsers.{Reads, ReadsTo, view};
 ghost use Rattle.st_statements.specs.steps.Parse as spec;
 ghost use Rattle.st_statements.specs.steps.ReadTrees as trees;
 
-use st_expr::{expression, identifier, located, node_at, parts, path};
+use st_expr::{any_expression, identifier, located, node_at, parts, path};
 use st_tree::{Identifier, Node, Part, Path, Root, Stmt, StmtArgument};
 use std::alloc::Global;
 use token_grammar::{Cursor, ParseError, TokenKind};
@@ -58,7 +58,7 @@ fn argument(alloc: Global, cursor: &mut Cursor<'_>) -> Result<StmtArgument, Pars
     let name = identifier(alloc, cursor)?;
     if cursor.sees(TokenKind::Becomes) {
         cursor.take(TokenKind::Becomes)?;
-        let value = expression(alloc, cursor)?;
+        let value = any_expression(alloc, cursor)?;
         return Ok(StmtArgument::Input(node_at(start, cursor.last), name, value));
     }
     cursor.take(TokenKind::Arrow)?;
@@ -142,7 +142,7 @@ fn assign_behind(
 {
     let found = parts(alloc, cursor)?;
     cursor.take(TokenKind::Becomes)?;
-    let value = expression(alloc, cursor)?;
+    let value = any_expression(alloc, cursor)?;
     let last = cursor.take(TokenKind::Semicolon)?;
     let node = node_to(&name, last.end);
     Ok(Stmt::Assign(node, path_from(name, found), value))
@@ -181,7 +181,7 @@ pub fn assign(alloc: Global, cursor: &mut Cursor<'_>) -> Result<Stmt, ParseError
     let start = cursor.start();
     let target = located(alloc, cursor)?;
     cursor.take(TokenKind::Becomes)?;
-    let value = expression(alloc, cursor)?;
+    let value = any_expression(alloc, cursor)?;
     cursor.take(TokenKind::Semicolon)?;
     Ok(Stmt::Assign(node_at(start, cursor.last), target, value))
 }

@@ -6,7 +6,7 @@ ghost use Rattle.st_statements.specs.steps.Parse as spec;
 ghost use Rattle.st_statements.specs.steps.Nests.{NestsStatements};
 
 use crate::statements::Block;
-use st_expr::{expression, identifier, node_at};
+use st_expr::{any_expression, identifier, node_at};
 use st_tree::{Branch, Counter, Expr, Identifier, Stmt};
 use std::alloc::Global;
 use token_grammar::{Cursor, ParseError, TokenKind};
@@ -19,7 +19,7 @@ fn step(alloc: Global, cursor: &mut Cursor<'_>) -> Result<Option<Boxed<Expr>>, P
 {
     if cursor.sees(TokenKind::By) {
         cursor.take(TokenKind::By)?;
-        return Ok(Some(expression(alloc, cursor)?));
+        return Ok(Some(any_expression(alloc, cursor)?));
     }
     Ok(None)
 }
@@ -31,7 +31,7 @@ fn start(alloc: Global, cursor: &mut Cursor<'_>) -> Result<(Identifier, Boxed<Ex
 {
     let name = identifier(alloc, cursor)?;
     cursor.take(TokenKind::Becomes)?;
-    let first = expression(alloc, cursor)?;
+    let first = any_expression(alloc, cursor)?;
     Ok((name, first))
 }
 
@@ -42,7 +42,7 @@ fn counted_by(alloc: Global, cursor: &mut Cursor<'_>) -> Result<Boxed<Counter>, 
 {
     let (variable, first) = start(alloc, cursor)?;
     cursor.take(TokenKind::To)?;
-    let last = expression(alloc, cursor)?;
+    let last = any_expression(alloc, cursor)?;
     let step = step(alloc, cursor)?;
     let counter = Counter {
         variable,
@@ -60,7 +60,7 @@ impl<F: Fn(Global, &mut Cursor<'_>, usize) -> Result<Stmt, ParseError>> Block<F>
         requires { NestsStatements self.now.nest (F.pre self.now.statement) (F.post self.now.statement) }
         ensures { Reads (spec.guarded (spec.nested self.now.nest) (view cursor.old)) result (view cursor.new) }
     {
-        let condition = expression(self.alloc, cursor)?;
+        let condition = any_expression(self.alloc, cursor)?;
         cursor.take(TokenKind::Then)?;
         let body = self.body(cursor)?;
         Ok(Branch { condition, body })
@@ -140,7 +140,7 @@ impl<F: Fn(Global, &mut Cursor<'_>, usize) -> Result<Stmt, ParseError>> Block<F>
         let depth = cursor.depth;
         let start = cursor.start();
         cursor.enter(TokenKind::While)?;
-        let condition = expression(self.alloc, cursor)?;
+        let condition = any_expression(self.alloc, cursor)?;
         cursor.take(TokenKind::Do)?;
         let body = self.body(cursor)?;
         cursor.take(TokenKind::EndWhile)?;
@@ -159,7 +159,7 @@ impl<F: Fn(Global, &mut Cursor<'_>, usize) -> Result<Stmt, ParseError>> Block<F>
         cursor.enter(TokenKind::Repeat)?;
         let body = self.body(cursor)?;
         cursor.take(TokenKind::Until)?;
-        let condition = expression(self.alloc, cursor)?;
+        let condition = any_expression(self.alloc, cursor)?;
         cursor.take(TokenKind::EndRepeat)?;
         cursor.depth = depth;
         Ok(Stmt::Repeat(node_at(start, cursor.last), body, condition))

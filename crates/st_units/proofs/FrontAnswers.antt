@@ -16,7 +16,7 @@ use Rattle.token_grammar.proofs.Laws.{Told, Reason, input, Exact}
 use Rattle.token_grammar.proofs.Front.{spells, is_fault, is_too_deep}
 use Rattle.token_grammar.proofs.Forms.{Inner}
 use Rattle.st_units.specs.Fronts.{words_from, IsAtKept, IsFront, IsFrontFault, IsFrontCause, RefusesFront, FrontLaws}
-use Rattle.st_units.specs.steps.Found.{fault_of, input_from, kept_behind, IsBehind, FrontFound, FindsFront}
+use Rattle.st_units.specs.steps.Found.{fault_of, kept_behind, FrontFound, FindsFront}
 use Rattle.st_units.specs.declared.fault.ParseFault.{ParseFault}
 use Rattle.st_units.proofs.FrontLaws.{one_rest_front, one_tree, front_not_fault, front_not_deep, one_fault, one_too_deep, fault_not_deep}
 

@@ -3,8 +3,8 @@ use Rattle.std.proofs.Common.{◌≡◌, ◌⊎◌, true, false, List, [], ◌�
 use Rattle.token_grammar.specs.declared.token.TokenKind.{TokenKind}
 use Rattle.token_grammar.specs.declared.token.TokenKind.TheVariants as k
 use Rattle.token_grammar.specs.Texts.{Lexeme}
-use Rattle.token_grammar.specs.steps.Parsers.{Parser, and_then, pure, take, sees_in}
-use Rattle.token_grammar.specs.Grammar.{Word, Rule, lexemes_of, ◌>>=◌, ◌or◌, give, token}
+use Rattle.token_grammar.specs.steps.Parsers.{and_then, pure, take, sees_in}
+use Rattle.token_grammar.specs.Grammar.{Rule, lexemes_of, ◌>>=◌, ◌or◌, give, token}
 use Rattle.token_grammar.proofs.Laws.{Exact}
 use Rattle.token_grammar.proofs.Starts.{sees_any, disjoint, sees_other, only_false, IsLevel, bind_starts, bind_give}
 use Rattle.token_grammar.proofs.Forms.{Form, Avoids, level_carries, form_take, form_then, form_as, form_or, form_node, exact_or_else, level_bind, level_give, level_or, level_node, level_then}
@@ -19,7 +19,7 @@ use Rattle.st_tree.specs.declared.file.FilePart.{FilePart}
 use Rattle.st_tree.specs.declared.file.FilePart.TheVariants as part
 use Rattle.st_expr.proofs.Leaves.{form_identifier, level_identifier}
 use Rattle.st_expr.proofs.Operators.{or_is, last_is}
-use Rattle.st_expr.proofs.Lists.{Here, stays, exact_each, level_each, exact_last, starts_last, level_last}
+use Rattle.st_expr.proofs.Lists.{Here, stays, exact_each, exact_last, starts_last, level_last}
 use Rattle.st_statements.specs.Grammar.{statements}
 use Rattle.st_statements.proofs.ReadingForms.{statement_kinds}
 use Rattle.st_statements.proofs.StatementExactness.{exact_statements, loose_statements, level_statements}

@@ -17,6 +17,7 @@ ghost use Rattle.st_units.specs.steps.Found.{FindsFront, FrontFound, kept_behind
 use crate::fault::{ParseFault, fault_at};
 use sfc_text::sfc;
 use st_declarations::Reader;
+use st_expr::any_expression;
 use st_statements::statement_list;
 use st_tree::{Expr, Sfc, Stmt};
 use std::alloc::{AllocError, Global};
@@ -90,14 +91,14 @@ fn fresh(alloc: Global) -> Counting<'static>
 struct ExpressionReader;
 
 impl Reader<Boxed<Expr>> for ExpressionReader {
-    ghost use Rattle.st_expr.specs.steps.Parse.{expression};
+    ghost use Rattle.st_expr.specs.steps.Parse.{any_expression};
 
-    ghost parser = { λ _. expression };
+    ghost parser = { λ _. any_expression };
 
     ghost ready = { λ _. Unit {0} };
 
     fn read(&self, alloc: Global, cursor: &mut Cursor<'_>) -> Result<Boxed<Expr>, ParseError> {
-        st_expr::expression(alloc, cursor)
+        any_expression(alloc, cursor)
     }
 }
 

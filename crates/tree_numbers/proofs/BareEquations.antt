@@ -4,18 +4,18 @@ use Rattle.std.proofs.Common.{◌≡◌, sym, ap, ◌∙◌}
 use Rattle.st_tree.specs.declared.expression.Expr.{Expr, roll-Expr, fold-roll-Expr, map-Expr}
 use Rattle.st_tree.specs.declared.expression.Expr.TheOpen.{Expr-F, Part-F, Argument-F, Path-F}
 use Rattle.st_tree.specs.declared.expression.Part.{Part, roll-Part, fold-roll-Part, map-Part}
-use Rattle.st_tree.specs.declared.expression.Argument.{Argument, roll-Argument, rolls-Argument', fold-roll-Argument, map-Argument}
-use Rattle.st_tree.specs.declared.expression.Path.{Path, roll-Path, rolls-Path', fold-roll-Path, map-Path}
+use Rattle.st_tree.specs.declared.expression.Argument.{Argument, rolls-Argument', fold-roll-Argument, map-Argument}
+use Rattle.st_tree.specs.declared.expression.Path.{Path, rolls-Path', fold-roll-Path, map-Path}
 use Rattle.st_tree.specs.declared.statement.Stmt.{Stmt, roll-Stmt, fold-roll-Stmt, map-Stmt}
 use Rattle.st_tree.specs.declared.statement.Stmt.TheOpen.{Stmt-F, Branch-F, Case-F}
-use Rattle.st_tree.specs.declared.statement.Branch.{Branch, roll-Branch, rolls-Branch', fold-roll-Branch, map-Branch}
-use Rattle.st_tree.specs.declared.statement.Case.{Case, roll-Case, rolls-Case', fold-roll-Case, map-Case}
+use Rattle.st_tree.specs.declared.statement.Branch.{Branch, rolls-Branch', fold-roll-Branch, map-Branch}
+use Rattle.st_tree.specs.declared.statement.Case.{Case, rolls-Case', fold-roll-Case, map-Case}
 use Rattle.st_tree.specs.declared.declaration.Spec.{Spec, roll-Spec, fold-roll-Spec, map-Spec}
 use Rattle.st_tree.specs.declared.declaration.Spec.TheOpen.{Spec-F}
 use Rattle.st_tree.specs.declared.declaration.Init.{Init, roll-Init, fold-roll-Init, map-Init}
 use Rattle.st_tree.specs.declared.declaration.Init.TheOpen.{Init-F, Item-F, FieldInit-F}
 use Rattle.st_tree.specs.declared.declaration.Item.{Item, roll-Item, fold-roll-Item, map-Item}
-use Rattle.st_tree.specs.declared.declaration.FieldInit.{FieldInit, roll-FieldInit, rolls-FieldInit', fold-roll-FieldInit, map-FieldInit}
+use Rattle.st_tree.specs.declared.declaration.FieldInit.{FieldInit, rolls-FieldInit', fold-roll-FieldInit, map-FieldInit}
 use Rattle.tree_numbers.specs.Bare.{expr_bare, bare_expr, part_bare, bare_part, argument_bare, bare_argument, path_bare, bare_path, stmt_bare, bare_stmt, branch_bare, bare_branch, case_bare, bare_case, spec_bare, bare_spec, init_bare, bare_init, item_bare, bare_item, field_bare, bare_field}
 
 pub rolled_bare_expr : (y : Expr-F Expr Part Argument Path) → bare_expr (roll-Expr y)

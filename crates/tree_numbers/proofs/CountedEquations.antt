@@ -4,18 +4,18 @@ use Rattle.std.proofs.Common.{◌≡◌, sym, ap, ◌∙◌}
 use Rattle.st_tree.specs.declared.expression.Expr.{Expr, roll-Expr, fold-roll-Expr, map-Expr}
 use Rattle.st_tree.specs.declared.expression.Expr.TheOpen.{Expr-F, Part-F, Argument-F, Path-F}
 use Rattle.st_tree.specs.declared.expression.Part.{Part, roll-Part, fold-roll-Part, map-Part}
-use Rattle.st_tree.specs.declared.expression.Argument.{Argument, roll-Argument, rolls-Argument', fold-roll-Argument, map-Argument}
-use Rattle.st_tree.specs.declared.expression.Path.{Path, roll-Path, rolls-Path', fold-roll-Path, map-Path}
+use Rattle.st_tree.specs.declared.expression.Argument.{Argument, rolls-Argument', fold-roll-Argument, map-Argument}
+use Rattle.st_tree.specs.declared.expression.Path.{Path, rolls-Path', fold-roll-Path, map-Path}
 use Rattle.st_tree.specs.declared.statement.Stmt.{Stmt, roll-Stmt, fold-roll-Stmt, map-Stmt}
 use Rattle.st_tree.specs.declared.statement.Stmt.TheOpen.{Stmt-F, Branch-F, Case-F}
-use Rattle.st_tree.specs.declared.statement.Branch.{Branch, roll-Branch, rolls-Branch', fold-roll-Branch, map-Branch}
-use Rattle.st_tree.specs.declared.statement.Case.{Case, roll-Case, rolls-Case', fold-roll-Case, map-Case}
+use Rattle.st_tree.specs.declared.statement.Branch.{Branch, rolls-Branch', fold-roll-Branch, map-Branch}
+use Rattle.st_tree.specs.declared.statement.Case.{Case, rolls-Case', fold-roll-Case, map-Case}
 use Rattle.st_tree.specs.declared.declaration.Spec.{Spec, roll-Spec, fold-roll-Spec, map-Spec}
 use Rattle.st_tree.specs.declared.declaration.Spec.TheOpen.{Spec-F}
 use Rattle.st_tree.specs.declared.declaration.Init.{Init, roll-Init, fold-roll-Init, map-Init}
 use Rattle.st_tree.specs.declared.declaration.Init.TheOpen.{Init-F, Item-F, FieldInit-F}
 use Rattle.st_tree.specs.declared.declaration.Item.{Item, roll-Item, fold-roll-Item, map-Item}
-use Rattle.st_tree.specs.declared.declaration.FieldInit.{FieldInit, roll-FieldInit, rolls-FieldInit', fold-roll-FieldInit, map-FieldInit}
+use Rattle.st_tree.specs.declared.declaration.FieldInit.{FieldInit, rolls-FieldInit', fold-roll-FieldInit, map-FieldInit}
 use Rattle.tree_numbers.specs.declared.numbers.Counting.{Counting}
 use Rattle.tree_numbers.specs.steps.Turns.{Turn}
 use Rattle.tree_numbers.specs.steps.Counted.{expr_counted, counted_expr, part_counted, counted_part, argument_counted, counted_argument, path_counted, counted_path, stmt_counted, counted_stmt, branch_counted, counted_branch, case_counted, counted_case, spec_counted, counted_spec, init_counted, counted_init, item_counted, counted_item, field_counted, counted_field}

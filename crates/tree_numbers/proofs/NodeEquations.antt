@@ -1,8 +1,7 @@
 -- The list of nodes of each kind of tree that holds trees of its own kind: what its definition
 -- gives for each of its forms. For the other trees these equations hold by the definitions.
-use Rattle.std.proofs.Common.{◌≡◌, List, [], ◌∷◌, ◌++◌, map, Option, Some, None, Bool, ℕ, refl, sym, ap, ◌∙◌}
+use Rattle.std.proofs.Common.{◌≡◌, List, [], ◌∷◌, ◌++◌, map, Option, Some, None, Bool, ℕ, sym, ap, ◌∙◌}
 use Rattle.std.specs.Prelude.{flat_map}
-use Rattle.std.specs.Option.{option_map}
 use Rattle.std.proofs.lemmas.List.Folds.{flat_map-map}
 use denote.Hole.Carrier
 use Rattle.st_tree.specs.declared.node.Node.{Node}

@@ -38,7 +38,7 @@ use Rattle.tree_order.proofs.NodesOfWords.{AreInside, ComesBefore, ComesBeforeAl
 use Rattle.tree_order.proofs.NodesOfWords.{StandInOrder, StartsAt, EndsAt, inside_wider}
 use Rattle.tree_order.proofs.TokenPlaces.{TokensSpan, tokens_span, span_rises, filter_span}
 use Rattle.tree_order.proofs.TokenPlaces.{word_spans, beside}
-use Rattle.tree_order.proofs.Merging.{with_number, numbered_by, Shuffled, neither, left, right}
+use Rattle.tree_order.proofs.Merging.{numbered_by, Shuffled, neither, left, right}
 use Rattle.tree_order.proofs.Merging.{CountFrom, Merged, AreBehind, HaveBytes, IsBesideAll}
 use Rattle.tree_order.proofs.Merging.{AreBeside, Agrees, merge}
 use Rattle.tree_order.proofs.Merging as merging

@@ -19,7 +19,7 @@ use Rattle.tree_numbers.specs.Parts.{unit_of, types_of, globals_of, config_of, f
 use Rattle.st_units.specs.SourceTrees.{comments_among, starts_of, tree_of}
 use Rattle.tree_order.specs.Order.{nodes_of_tree, number_of, NodesOfParts, PartsOfNodes}
 use Rattle.tree_order.specs.Order.{PartsInOrder}
-use Rattle.tree_order.specs.Subtrees.{Tree, Layer, layer_of, Encloses, directly, further, tops_of}
+use Rattle.tree_order.specs.Subtrees.{Tree, layer_of, Encloses, directly, further, tops_of}
 use Rattle.tree_order.specs.Subtrees.{IsPartOf}
 use Rattle.tree_order.specs.Subtrees as t
 use Rattle.tree_order.proofs.Lists.{Among, among_contained, contained_among, among_either}

@@ -21,8 +21,7 @@ use Rattle.tree_numbers.specs.Laws.{SameParts}
 use Rattle.tree_numbers.specs.Parts.{unit_of, types_of, globals_of, config_of, file_of}
 use Rattle.st_units.specs.Files.{IsFile}
 use Rattle.st_units.specs.SourceTrees.{comments_among, starts_of, tree_of}
-use Rattle.tree_order.specs.Subtrees.{Tree, Layer, layer_of, Encloses, directly, further, tops_of}
-use Rattle.tree_order.specs.Subtrees.{IsPartOf}
+use Rattle.tree_order.specs.Subtrees.{Tree, layer_of, Encloses, directly, further, tops_of}
 use Rattle.tree_order.specs.Subtrees as t
 use Rattle.tree_order.specs.Literals.{IsTextOf, TextsOfTokens, TextsHaveValues}
 use Rattle.tree_order.proofs.Lists.{Among, among_contained, contained_among, among_left}

@@ -68,7 +68,7 @@ use Rattle.st_tree.specs.declared.file.Resource.{Resource}
 use Rattle.st_tree.specs.declared.file.Config.{Config}
 use Rattle.st_tree.specs.declared.file.FilePart.{FilePart}
 use Rattle.st_tree.specs.declared.file.FilePart.TheVariants as file_part
-use Rattle.tree_order.specs.Subtrees.{Tree, Layer, layer_of, expr_layer, part_layer}
+use Rattle.tree_order.specs.Subtrees.{Tree, layer_of, expr_layer, part_layer}
 use Rattle.tree_order.specs.Subtrees as t
 use Rattle.tree_order.proofs.Lists.{Among}
 

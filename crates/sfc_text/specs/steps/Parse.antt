@@ -6,7 +6,6 @@ use Rattle.token_grammar.specs.Texts.{Lexeme}
 use Rattle.token_grammar.specs.steps.Parsers.{Parser, ◌>>=◌, pure, take, enter, scoped, node, choose, repeated, sees_in}
 use Rattle.st_tree.specs.declared.expression.Identifier.{Identifier}
 use Rattle.st_tree.specs.declared.expression.Expr.{Expr}
-use Rattle.st_tree.specs.declared.statement.Stmt.{Stmt}
 use Rattle.st_tree.specs.declared.chart.Association.{Association}
 use Rattle.st_tree.specs.declared.chart.Step.{Step}
 use Rattle.st_tree.specs.declared.chart.StepNames.{StepNames}
@@ -16,7 +15,7 @@ use Rattle.st_tree.specs.declared.chart.Action.{Action}
 use Rattle.st_tree.specs.declared.chart.SfcPart.{SfcPart}
 use Rattle.st_tree.specs.declared.chart.SfcPart.TheVariants as part
 use Rattle.st_tree.specs.declared.chart.Sfc.{Sfc}
-use Rattle.st_expr.specs.steps.Parse.{identifier, names, expression}
+use Rattle.st_expr.specs.steps.Parse.{identifier, names, any_expression as expression}
 use Rattle.st_statements.specs.steps.Parse.{statements}
 use Rattle.sfc_text.specs.Trees.{make_association, make_step, make_several, make_transition, make_action, make_sfc}
 

@@ -36,7 +36,7 @@ use Rattle.st_tree.specs.declared.file.Tasks.{Tasks}
 use Rattle.st_tree.specs.declared.file.Task.{Task}
 use Rattle.st_tree.specs.declared.file.Parameter.{Parameter}
 use Rattle.st_tree.specs.declared.file.ProgramLine.{ProgramLine}
-use Rattle.st_expr.specs.steps.Parse.{word, identifier, address, names, expression}
+use Rattle.st_expr.specs.steps.Parse.{word, identifier, address, names, any_expression as expression}
 use Rattle.st_declarations.specs.Trees.{make_elementary, make_range, make_type, make_enumeration, make_array, make_elements, make_structure, make_repeated, make_field_init, make_decl, make_section, make_globals, make_fields, make_struct, make_type_decl, make_types, make_parameter, make_task, make_line, tasks_of, make_resource, make_config}
 
 -- ---- lists

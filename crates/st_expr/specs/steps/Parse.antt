@@ -207,14 +207,14 @@ nested (suc nest) = whole (nested nest)
 
 -- ---- expressions and paths, to any depth
 
-abbrev pub expression : Parser Expr
-expression = nested 257
+abbrev pub any_expression : Parser Expr
+any_expression = nested 257
 
 abbrev pub any_path : Parser Path
-any_path = path expression
+any_path = path any_expression
 
 abbrev pub any_located : Parser Path
-any_located = located expression
+any_located = located any_expression
 
 abbrev pub any_parts : Parser (List Part)
-any_parts = parts expression
+any_parts = parts any_expression

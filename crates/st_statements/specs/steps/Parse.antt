@@ -14,7 +14,7 @@ use Rattle.st_tree.specs.declared.statement.Label.{Label}
 use Rattle.st_tree.specs.declared.statement.Point.{Point}
 use Rattle.st_tree.specs.declared.statement.Point.TheVariants as point
 use Rattle.st_tree.specs.declared.statement.StmtArgument.{StmtArgument}
-use Rattle.st_expr.specs.steps.Parse.{word, identifier, expression, any_path as path, any_parts as parts, any_located as located}
+use Rattle.st_expr.specs.steps.Parse.{word, identifier, any_expression as expression, any_path as path, any_parts as parts, any_located as located}
 use Rattle.st_statements.specs.Trees.{ArgumentEnding, argument_ended, input_of, output_of, make_assign, make_return, make_exit, make_continue, branch_of, make_if, make_case, make_for, counter_of, make_while, make_repeat, make_point_number, make_point_typed, point_value, single, range_to}
 use Rattle.st_statements.specs.steps.ReadTrees.{path_from, assign_from, call_from, Branches, labelled, closed, with_stmt, with_labels}
 

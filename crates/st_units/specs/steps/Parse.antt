@@ -1,5 +1,5 @@
 -- Units and files as functions on lexemes: a step on the way from the code to the grammar.
-use Rattle.std.specs.Prelude.{Bool, ◌||◌, List, [], ◌∷◌, ◌++◌, Ok, Err}
+use Rattle.std.specs.Prelude.{Bool, ◌||◌, List, [], ◌∷◌, Ok, Err}
 use Rattle.token_grammar.specs.declared.token.TokenKind.{TokenKind}
 use Rattle.token_grammar.specs.declared.token.TokenKind.TheVariants as k
 use Rattle.token_grammar.specs.declared.fault.ParseError.TheVariants.{Grammar as Syntax}

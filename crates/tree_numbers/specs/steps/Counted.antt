@@ -1,9 +1,8 @@
 -- Trees whose nodes are numbered one after the other as the code numbers them: a node first, then
 -- its parts in the order of the text, each with the counter that the one before it left.
-use Rattle.std.specs.Prelude.{ℕ, List, [], ◌∷◌, ◌++◌, length, map}
+use Rattle.std.specs.Prelude.{[], ◌∷◌, ◌++◌, length, map}
 use Rattle.std.specs.Option.{option_map}
 use Rattle.st_tree.specs.declared.node.Node.{Node}
-use Rattle.tree_numbers.specs.declared.numbers.Counting.{Counting}
 use Rattle.tree_numbers.specs.NumberedAt.{numbered_at}
 use Rattle.tree_numbers.specs.steps.Turns.{Turn, kept, turn1, turn2, turn3, turn4, turn5, each, perhaps}
 use Rattle.st_tree.specs.declared.expression.Identifier.{Identifier}

@@ -13,23 +13,27 @@ loop-turn-init c = first_of (search rules, grind (arith, common_steps))
 pub returns-then-not-sees : goal.returns-then-not-sees
 unfolding loop
 returns-then-not-sees c =
-    let e = one_more (λ n. loop (sees_in k.Comma) more_names n c.loop-turn.found (view c.loop-turn.cursor)) _ c.loop-turn._turn c.loop-turn-test.true c.loop-turn.invariant in
+    let e = one_more (λ n. loop (sees_in k.Comma) more_names n c.loop-turn.found
+    (view c.loop-turn.cursor)) _ c.loop-turn._turn c.loop-turn-test.true c.loop-turn.invariant in
     first_of (search rules, grind (arith, common_steps))
 
 pub returns-in_err-more_names : goal.returns-in_err-more_names
 unfolding loop
 returns-in_err-more_names c =
-    let e = one_more (λ n. loop (sees_in k.Comma) more_names n c.loop-turn.found (view c.loop-turn.cursor)) _ c.loop-turn._turn c.loop-turn-test.true c.loop-turn.invariant in
+    let e = one_more (λ n. loop (sees_in k.Comma) more_names n c.loop-turn.found
+    (view c.loop-turn.cursor)) _ c.loop-turn._turn c.loop-turn-test.true c.loop-turn.invariant in
     first_of (search rules, grind (arith, common_steps))
 
 pub loop-turn-preserved : goal.loop-turn-preserved
 unfolding loop
 loop-turn-preserved c =
-    let e = one_more (λ n. loop (sees_in k.Comma) more_names n c.loop-turn.found (view c.loop-turn.cursor)) _ c.loop-turn._turn c.loop-turn-test.true c.loop-turn.invariant in
+    let e = one_more (λ n. loop (sees_in k.Comma) more_names n c.loop-turn.found
+    (view c.loop-turn.cursor)) _ c.loop-turn._turn c.loop-turn-test.true c.loop-turn.invariant in
     first_of (search rules, grind (arith, common_steps))
 
 pub returns : goal.returns
 unfolding loop
 returns c =
-    let e = no_more (λ n. loop (sees_in k.Comma) more_names n c.loop-turn.found (view c.loop-turn.cursor)) _ c.loop-turn._turn c.loop-turn-test.false c.loop-turn.invariant in
+    let e = no_more (λ n. loop (sees_in k.Comma) more_names n c.loop-turn.found
+    (view c.loop-turn.cursor)) _ c.loop-turn._turn c.loop-turn-test.false c.loop-turn.invariant in
     first_of (search rules, grind (arith, common_steps))
