@@ -12,23 +12,7 @@ use std::alloc::Global;
 use token_grammar::{Cursor, ParseError, TokenKind};
 use tree_items::Items;
 
-/// `name ":=" expr`
-#[tactic(auto, unfolding(crate::specs::steps::Parse::parameter))]
-fn parameter(alloc: Global, cursor: &mut Cursor<'_>) -> Result<Parameter, ParseError>
-    ensures { Reads (spec.parameter (view cursor.old)) result (view cursor.new) }
-{
-    let start = cursor.start();
-    let name = identifier(alloc, cursor)?;
-    cursor.take(TokenKind::Becomes)?;
-    let value = any_expression(alloc, cursor)?;
-    Ok(Parameter {
-        node: node_at(start, cursor.last),
-        name,
-        value,
-    })
-}
-
-/// Reads a parameter of a task.
+/// Reads a parameter of a task: `name ":=" expr`.
 struct ParameterReader;
 
 impl Reader<Parameter> for ParameterReader {
@@ -38,8 +22,17 @@ impl Reader<Parameter> for ParameterReader {
 
     ghost ready = { λ _. Unit {0} };
 
+    #[tactic(auto, unfolding(crate::specs::steps::Parse::parameter))]
     fn read(&self, alloc: Global, cursor: &mut Cursor<'_>) -> Result<Parameter, ParseError> {
-        parameter(alloc, cursor)
+        let start = cursor.start();
+        let name = identifier(alloc, cursor)?;
+        cursor.take(TokenKind::Becomes)?;
+        let value = any_expression(alloc, cursor)?;
+        Ok(Parameter {
+            node: node_at(start, cursor.last),
+            name,
+            value,
+        })
     }
 }
 
@@ -56,24 +49,7 @@ fn parameters(alloc: Global, cursor: &mut Cursor<'_>) -> Result<Items<Parameter>
     Ok(found)
 }
 
-/// `TASK name "(" parameters ")" ";"`
-#[tactic(auto, unfolding(crate::specs::steps::Parse::task))]
-fn task(alloc: Global, cursor: &mut Cursor<'_>) -> Result<Task, ParseError>
-    ensures { Reads (spec.task (view cursor.old)) result (view cursor.new) }
-{
-    let start = cursor.start();
-    cursor.take(TokenKind::Task)?;
-    let name = identifier(alloc, cursor)?;
-    let parameters = parameters(alloc, cursor)?;
-    cursor.take(TokenKind::Semicolon)?;
-    Ok(Task {
-        node: node_at(start, cursor.last),
-        name,
-        parameters,
-    })
-}
-
-/// Reads a task.
+/// Reads a task: `TASK name "(" parameters ")" ";"`.
 struct TaskReader;
 
 impl Reader<Task> for TaskReader {
@@ -83,8 +59,18 @@ impl Reader<Task> for TaskReader {
 
     ghost ready = { λ _. Unit {0} };
 
+    #[tactic(auto, unfolding(crate::specs::steps::Parse::task))]
     fn read(&self, alloc: Global, cursor: &mut Cursor<'_>) -> Result<Task, ParseError> {
-        task(alloc, cursor)
+        let start = cursor.start();
+        cursor.take(TokenKind::Task)?;
+        let name = identifier(alloc, cursor)?;
+        let parameters = parameters(alloc, cursor)?;
+        cursor.take(TokenKind::Semicolon)?;
+        Ok(Task {
+            node: node_at(start, cursor.last),
+            name,
+            parameters,
+        })
     }
 }
 
@@ -109,27 +95,7 @@ fn optional_task(alloc: Global, cursor: &mut Cursor<'_>) -> Result<Option<Identi
     }
 }
 
-/// `PROGRAM name [ WITH name ] ":" name ";"`
-#[tactic(auto, unfolding(crate::specs::steps::Parse::program_line))]
-fn program_line(alloc: Global, cursor: &mut Cursor<'_>) -> Result<ProgramLine, ParseError>
-    ensures { Reads (spec.program_line (view cursor.old)) result (view cursor.new) }
-{
-    let start = cursor.start();
-    cursor.take(TokenKind::Program)?;
-    let name = identifier(alloc, cursor)?;
-    let task = optional_task(alloc, cursor)?;
-    cursor.take(TokenKind::Colon)?;
-    let program = identifier(alloc, cursor)?;
-    cursor.take(TokenKind::Semicolon)?;
-    Ok(ProgramLine {
-        node: node_at(start, cursor.last),
-        name,
-        task,
-        program,
-    })
-}
-
-/// Reads a program line.
+/// Reads a program line: `PROGRAM name [ WITH name ] ":" name ";"`.
 struct ProgramLineReader;
 
 impl Reader<ProgramLine> for ProgramLineReader {
@@ -139,8 +105,21 @@ impl Reader<ProgramLine> for ProgramLineReader {
 
     ghost ready = { λ _. Unit {0} };
 
+    #[tactic(auto, unfolding(crate::specs::steps::Parse::program_line))]
     fn read(&self, alloc: Global, cursor: &mut Cursor<'_>) -> Result<ProgramLine, ParseError> {
-        program_line(alloc, cursor)
+        let start = cursor.start();
+        cursor.take(TokenKind::Program)?;
+        let name = identifier(alloc, cursor)?;
+        let task = optional_task(alloc, cursor)?;
+        cursor.take(TokenKind::Colon)?;
+        let program = identifier(alloc, cursor)?;
+        cursor.take(TokenKind::Semicolon)?;
+        Ok(ProgramLine {
+            node: node_at(start, cursor.last),
+            name,
+            task,
+            program,
+        })
     }
 }
 
@@ -154,29 +133,7 @@ fn tasks(alloc: Global, cursor: &mut Cursor<'_>) -> Result<Tasks, ParseError>
     Ok(Tasks { tasks, lines })
 }
 
-/// `RESOURCE name ON name { globals } tasks END_RESOURCE`
-#[tactic(auto, unfolding(crate::specs::steps::Parse::resource))]
-fn resource(alloc: Global, cursor: &mut Cursor<'_>) -> Result<Resource, ParseError>
-    ensures { Reads (spec.resource (view cursor.old)) result (view cursor.new) }
-{
-    let start = cursor.start();
-    cursor.take(TokenKind::Resource)?;
-    let name = identifier(alloc, cursor)?;
-    cursor.take(TokenKind::On)?;
-    let kind = identifier(alloc, cursor)?;
-    let globals = each(alloc, cursor, TokenKind::VarGlobal, &GlobalsReader)?;
-    let tasks = tasks(alloc, cursor)?;
-    cursor.take(TokenKind::EndResource)?;
-    Ok(Resource {
-        node: node_at(start, cursor.last),
-        name,
-        kind,
-        globals,
-        tasks,
-    })
-}
-
-/// Reads a resource.
+/// Reads a resource: `RESOURCE name ON name { globals } tasks END_RESOURCE`.
 struct ResourceReader;
 
 impl Reader<Resource> for ResourceReader {
@@ -186,8 +143,23 @@ impl Reader<Resource> for ResourceReader {
 
     ghost ready = { λ _. Unit {0} };
 
+    #[tactic(auto, unfolding(crate::specs::steps::Parse::resource))]
     fn read(&self, alloc: Global, cursor: &mut Cursor<'_>) -> Result<Resource, ParseError> {
-        resource(alloc, cursor)
+        let start = cursor.start();
+        cursor.take(TokenKind::Resource)?;
+        let name = identifier(alloc, cursor)?;
+        cursor.take(TokenKind::On)?;
+        let kind = identifier(alloc, cursor)?;
+        let globals = each(alloc, cursor, TokenKind::VarGlobal, &GlobalsReader)?;
+        let tasks = tasks(alloc, cursor)?;
+        cursor.take(TokenKind::EndResource)?;
+        Ok(Resource {
+            node: node_at(start, cursor.last),
+            name,
+            kind,
+            globals,
+            tasks,
+        })
     }
 }
 

@@ -34,28 +34,7 @@ fn optional_address(alloc: Global, cursor: &mut Cursor<'_>) -> Result<Option<Add
     }
 }
 
-/// `names [ AT address ] ":" spec [ ":=" init ] ";"`
-#[tactic(auto, unfolding(crate::specs::steps::Parse::decl))]
-fn decl(alloc: Global, cursor: &mut Cursor<'_>) -> Result<Decl, ParseError>
-    ensures { Reads (spec.decl (view cursor.old)) result (view cursor.new) }
-{
-    let start = cursor.start();
-    let names = name_list(alloc, cursor)?;
-    let address = optional_address(alloc, cursor)?;
-    cursor.take(TokenKind::Colon)?;
-    let spec = spec(alloc, cursor)?;
-    let init = optional_init(alloc, cursor)?;
-    cursor.take(TokenKind::Semicolon)?;
-    Ok(Decl {
-        node: node_at(start, cursor.last),
-        names,
-        address,
-        spec,
-        init,
-    })
-}
-
-/// Reads variables declared together.
+/// Reads variables declared together: `names [ AT address ] ":" spec [ ":=" init ] ";"`.
 struct DeclReader;
 
 impl Reader<Decl> for DeclReader {
@@ -65,8 +44,22 @@ impl Reader<Decl> for DeclReader {
 
     ghost ready = { λ _. Unit {0} };
 
+    #[tactic(auto, unfolding(crate::specs::steps::Parse::decl))]
     fn read(&self, alloc: Global, cursor: &mut Cursor<'_>) -> Result<Decl, ParseError> {
-        decl(alloc, cursor)
+        let start = cursor.start();
+        let names = name_list(alloc, cursor)?;
+        let address = optional_address(alloc, cursor)?;
+        cursor.take(TokenKind::Colon)?;
+        let spec = spec(alloc, cursor)?;
+        let init = optional_init(alloc, cursor)?;
+        cursor.take(TokenKind::Semicolon)?;
+        Ok(Decl {
+            node: node_at(start, cursor.last),
+            names,
+            address,
+            spec,
+            init,
+        })
     }
 }
 
@@ -138,25 +131,7 @@ fn sees_section(cursor: &Cursor<'_>) -> bool
                     || (cursor.sees(TokenKind::VarExternal) || cursor.sees(TokenKind::VarTemp)))))
 }
 
-/// `section_word [ keep ] { decl } END_VAR`
-#[tactic(auto, unfolding(crate::specs::steps::Parse::section))]
-fn section(alloc: Global, cursor: &mut Cursor<'_>) -> Result<Section, ParseError>
-    ensures { Reads (spec.section (view cursor.old)) result (view cursor.new) }
-{
-    let start = cursor.start();
-    let kind = section_word(cursor)?;
-    let keep = keep(cursor)?;
-    let decls = each(alloc, cursor, TokenKind::Name, &DeclReader)?;
-    cursor.take(TokenKind::EndVar)?;
-    Ok(Section {
-        node: node_at(start, cursor.last),
-        kind,
-        keep,
-        decls,
-    })
-}
-
-/// Reads a section.
+/// Reads a section: `section_word [ keep ] { decl } END_VAR`.
 struct SectionReader;
 
 impl Reader<Section> for SectionReader {
@@ -166,8 +141,19 @@ impl Reader<Section> for SectionReader {
 
     ghost ready = { λ _. Unit {0} };
 
+    #[tactic(auto, unfolding(crate::specs::steps::Parse::section))]
     fn read(&self, alloc: Global, cursor: &mut Cursor<'_>) -> Result<Section, ParseError> {
-        section(alloc, cursor)
+        let start = cursor.start();
+        let kind = section_word(cursor)?;
+        let keep = keep(cursor)?;
+        let decls = each(alloc, cursor, TokenKind::Name, &DeclReader)?;
+        cursor.take(TokenKind::EndVar)?;
+        Ok(Section {
+            node: node_at(start, cursor.last),
+            kind,
+            keep,
+            decls,
+        })
     }
 }
 

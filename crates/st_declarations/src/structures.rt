@@ -12,26 +12,7 @@ use st_tree::{Fields, Shape, TypeDecl, Types};
 use std::alloc::Global;
 use token_grammar::{Cursor, ParseError, TokenKind};
 
-/// `names ":" spec [ ":=" init ] ";"`
-#[tactic(auto, unfolding(crate::specs::steps::Parse::fields))]
-fn fields(alloc: Global, cursor: &mut Cursor<'_>) -> Result<Fields, ParseError>
-    ensures { Reads (spec.fields (view cursor.old)) result (view cursor.new) }
-{
-    let start = cursor.start();
-    let names = name_list(alloc, cursor)?;
-    cursor.take(TokenKind::Colon)?;
-    let spec = spec(alloc, cursor)?;
-    let init = optional_init(alloc, cursor)?;
-    cursor.take(TokenKind::Semicolon)?;
-    Ok(Fields {
-        node: node_at(start, cursor.last),
-        names,
-        spec,
-        init,
-    })
-}
-
-/// Reads fields declared together.
+/// Reads fields declared together: `names ":" spec [ ":=" init ] ";"`.
 struct FieldsReader;
 
 impl Reader<Fields> for FieldsReader {
@@ -41,8 +22,20 @@ impl Reader<Fields> for FieldsReader {
 
     ghost ready = { λ _. Unit {0} };
 
+    #[tactic(auto, unfolding(crate::specs::steps::Parse::fields))]
     fn read(&self, alloc: Global, cursor: &mut Cursor<'_>) -> Result<Fields, ParseError> {
-        fields(alloc, cursor)
+        let start = cursor.start();
+        let names = name_list(alloc, cursor)?;
+        cursor.take(TokenKind::Colon)?;
+        let spec = spec(alloc, cursor)?;
+        let init = optional_init(alloc, cursor)?;
+        cursor.take(TokenKind::Semicolon)?;
+        Ok(Fields {
+            node: node_at(start, cursor.last),
+            names,
+            spec,
+            init,
+        })
     }
 }
 
@@ -70,26 +63,7 @@ fn shape(alloc: Global, cursor: &mut Cursor<'_>) -> Result<Shape, ParseError>
     }
 }
 
-/// `name ":" shape [ ":=" init ] ";"`
-#[tactic(auto, unfolding(crate::specs::steps::Parse::type_decl))]
-fn type_decl(alloc: Global, cursor: &mut Cursor<'_>) -> Result<TypeDecl, ParseError>
-    ensures { Reads (spec.type_decl (view cursor.old)) result (view cursor.new) }
-{
-    let start = cursor.start();
-    let name = identifier(alloc, cursor)?;
-    cursor.take(TokenKind::Colon)?;
-    let shape = shape(alloc, cursor)?;
-    let init = optional_init(alloc, cursor)?;
-    cursor.take(TokenKind::Semicolon)?;
-    Ok(TypeDecl {
-        node: node_at(start, cursor.last),
-        name,
-        shape,
-        init,
-    })
-}
-
-/// Reads the declaration of a type.
+/// Reads the declaration of a type: `name ":" shape [ ":=" init ] ";"`.
 struct TypeDeclReader;
 
 impl Reader<TypeDecl> for TypeDeclReader {
@@ -99,8 +73,20 @@ impl Reader<TypeDecl> for TypeDeclReader {
 
     ghost ready = { λ _. Unit {0} };
 
+    #[tactic(auto, unfolding(crate::specs::steps::Parse::type_decl))]
     fn read(&self, alloc: Global, cursor: &mut Cursor<'_>) -> Result<TypeDecl, ParseError> {
-        type_decl(alloc, cursor)
+        let start = cursor.start();
+        let name = identifier(alloc, cursor)?;
+        cursor.take(TokenKind::Colon)?;
+        let shape = shape(alloc, cursor)?;
+        let init = optional_init(alloc, cursor)?;
+        cursor.take(TokenKind::Semicolon)?;
+        Ok(TypeDecl {
+            node: node_at(start, cursor.last),
+            name,
+            shape,
+            init,
+        })
     }
 }
 

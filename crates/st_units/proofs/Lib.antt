@@ -1,3 +1,4 @@
+pub mod Sorting
 pub mod UnitForms
 pub mod FileForms
 pub mod FileAnswers

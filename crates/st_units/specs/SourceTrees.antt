@@ -20,7 +20,7 @@ use Rattle.st_tree.specs.declared.file.SourceTree.{SourceTree}
 use Rattle.tree_numbers.specs.NodeLists.{nodes_of_parts}
 use Rattle.tree_numbers.specs.NumberedAt.{numbered_at}
 use Rattle.tree_numbers.specs.Numbers.{numbered_parts}
-use Rattle.tree_numbers.specs.Parts.{file_of}
+use Rattle.st_units.specs.Parts.{file_of}
 use Rattle.st_units.specs.Files.{IsFile, IsFileFault}
 use Rattle.st_units.specs.declared.fault.ParseFault.{ParseFault}
 use Rattle.st_units.specs.declared.fault.ParseFault.TheVariants.{At, Lex, NoMemory}

@@ -3,6 +3,7 @@
 
 mod fault;
 mod fronts;
+mod parts;
 mod reading;
 mod source_file;
 mod units;

@@ -9,6 +9,7 @@ ghost use Rattle.tree_numbers.specs.Numbers.{numbered_parts};
 ghost use Rattle.st_units.specs.SourceTrees as spec;
 
 use crate::fault::ParseFault;
+use crate::parts::source_tree;
 use crate::reading::{count_steps, parts_of};
 use st_expr::node_at;
 use st_lexer::{cut_laws, tokens};
@@ -20,7 +21,7 @@ use std::alloc::{AllocError, Global};
 use std::sync::ledger::Ledger;
 use token_grammar::{Cursor, Token, TokenKind, drop_comments};
 use tree_items::Items;
-use tree_numbers::{Counting, Starts, number_parts, numbered_node, source_tree};
+use tree_numbers::{Counting, Starts, number_parts, numbered_node};
 
 /// The tree of a text, its nodes and comments numbered from 0 in the order of the text. Counts one
 /// parse step a token, comments and

@@ -10,4 +10,3 @@ pub mod StatementLaws
 pub mod DeclarationLaws
 pub mod ChartLaws
 pub mod FileLaws
-pub mod Sorting

@@ -4,5 +4,4 @@ pub mod Bare
 pub mod NumberedAt
 pub mod Numbers
 pub mod Laws
-pub mod Parts
 pub mod steps

@@ -8,13 +8,11 @@ mod files;
 mod law;
 mod numbered;
 mod numbers;
-mod parts;
 mod starts;
 mod statements;
 mod trees;
 
 pub use law::numbering_laws;
 pub use numbers::{Counting, numbered_node};
-pub use parts::source_tree;
 pub use starts::Starts;
 pub use trees::{number_expr, number_parts, number_sfc, number_stmts};

@@ -24,7 +24,7 @@ use Rattle.tree_numbers.specs.NodeLists.{nodes_of_types, nodes_of_globals, nodes
 use Rattle.tree_numbers.specs.NumberedAt.{before, numbered_at}
 use Rattle.tree_numbers.specs.Numbers.{numbered_parts}
 use Rattle.tree_numbers.specs.Laws.{RightNumbers}
-use Rattle.tree_numbers.specs.Parts.{unit_of, types_of, globals_of, config_of, file_of}
+use Rattle.st_units.specs.Parts.{unit_of, types_of, globals_of, config_of, file_of}
 use Rattle.st_units.specs.Files.{IsFile}
 use Rattle.st_units.specs.SourceTrees.{is_comment, comments_among, comments_from, starts_of}
 use Rattle.st_units.specs.SourceTrees.{places_of, tree_of}

@@ -15,7 +15,7 @@ use Rattle.tree_numbers.specs.NodeLists.{nodes_of_parts, nodes_of_file_part, nod
 use Rattle.tree_numbers.specs.NodeLists.{nodes_of_types, nodes_of_globals, nodes_of_config}
 use Rattle.tree_numbers.specs.Numbers.{numbered_parts}
 use Rattle.tree_numbers.specs.Laws.{RightNumbers}
-use Rattle.tree_numbers.specs.Parts.{unit_of, types_of, globals_of, config_of, file_of}
+use Rattle.st_units.specs.Parts.{unit_of, types_of, globals_of, config_of, file_of}
 use Rattle.st_units.specs.SourceTrees.{comments_among, starts_of, tree_of}
 use Rattle.tree_order.specs.Order.{nodes_of_tree, number_of, NodesOfParts, PartsOfNodes}
 use Rattle.tree_order.specs.Order.{PartsInOrder}

@@ -18,7 +18,7 @@ use Rattle.st_tree.specs.declared.file.FilePart.TheVariants as part
 use Rattle.tree_numbers.specs.Bare.{bare_file_part, bare_parts}
 use Rattle.tree_numbers.specs.Numbers.{numbered_parts}
 use Rattle.tree_numbers.specs.Laws.{SameParts}
-use Rattle.tree_numbers.specs.Parts.{unit_of, types_of, globals_of, config_of, file_of}
+use Rattle.st_units.specs.Parts.{unit_of, types_of, globals_of, config_of, file_of}
 use Rattle.st_units.specs.Files.{IsFile}
 use Rattle.st_units.specs.SourceTrees.{comments_among, starts_of, tree_of}
 use Rattle.tree_order.specs.Subtrees.{Tree, layer_of, Encloses, directly, further, tops_of}

@@ -6,7 +6,7 @@ use Rattle.st_tree.specs.declared.file.FilePart.{FilePart}
 use Rattle.st_tree.specs.declared.file.SourceTree.{SourceTree}
 use Rattle.station_ports.specs.declared.outside.NoMemory.{NoMemory}
 use Rattle.tree_numbers.specs.Numbers.{numbered_parts}
-use Rattle.tree_numbers.specs.Parts.{file_of}
+use Rattle.st_units.specs.Parts.{file_of}
 use Rattle.st_units.specs.SourceTrees as spec
 use Rattle.st_units.proofs.CommentTrees.{comments_same}
 use Rattle.st_units.proofs.source_file.tree_of.Goals as goal

@@ -1,7 +1,7 @@
 // A file put together from its parts.
 
 ghost use Rattle.std.specs.Prelude.{◌≡◌, [], ◌∷◌, IfOk, OnOk, reverse};
-ghost use Rattle.tree_numbers.specs.Parts as spec;
+ghost use Rattle.st_units.specs.Parts as spec;
 
 use st_tree::{Comment, FilePart, SourceTree};
 use station_ports::outside::NoMemory;
@@ -47,7 +47,7 @@ fn put_all(tree: &mut SourceTree, last_first: Items<FilePart>) -> Result<(), NoM
 
 /// The file of these parts, in the order of the text, with its comments and the places of its line
 /// feeds. NoMemory where there is none for it.
-pub fn source_tree(
+pub(crate) fn source_tree(
     alloc: Global,
     parts: Items<FilePart>,
     comments: Items<Comment>,

@@ -1,5 +1,5 @@
 use Rattle.std.proofs.Common.{◌≡◌, ◌++◌, length, reverse}
-use Rattle.tree_numbers.proofs.parts.reversed.Given as goal
+use Rattle.st_units.proofs.parts.reversed.Given as goal
 
 abbrev pub invariant-loop-part : goal.invariant-loop-part
 invariant-loop-part l = reverse l.fn.parts ≡ l.made ++ reverse l.parts

@@ -1,6 +1,6 @@
 use Rattle.std.proofs.Common.{◌≡◌, length, reverse}
-use Rattle.tree_numbers.specs.Parts.{with_parts}
-use Rattle.tree_numbers.proofs.parts.put_all.Given as goal
+use Rattle.st_units.specs.Parts.{with_parts}
+use Rattle.st_units.proofs.parts.put_all.Given as goal
 
 abbrev pub invariant-loop-part : goal.invariant-loop-part
 invariant-loop-part l = with_parts l.initial.tree (reverse l.fn.last_first)

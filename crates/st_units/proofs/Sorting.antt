@@ -3,7 +3,7 @@ use Rattle.std.proofs.Common.{◌≡◌, List, [], ◌∷◌, ◌++◌, reverse,
 use Rattle.std.proofs.lemmas.List.{append-nil, reverse-append}
 use Rattle.st_tree.specs.declared.file.FilePart.{FilePart}
 use Rattle.st_tree.specs.declared.file.SourceTree.{SourceTree}
-use Rattle.tree_numbers.specs.Parts.{with_parts}
+use Rattle.st_units.specs.Parts.{with_parts}
 
 with_none : (tree : SourceTree) → with_parts tree [] ≡ tree
 with_none tree =
