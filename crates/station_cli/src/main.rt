@@ -4,25 +4,19 @@
 ghost use Rattle.std.specs.Prelude.{◌≡◌};
 
 #[cfg(test)]
-mod copy_tests;
-#[cfg(test)]
 mod cut_tests;
 #[cfg(test)]
 mod depth_tests;
 #[cfg(test)]
 mod grammar_tests;
+#[cfg(test)]
+mod grammar_texts;
 pub mod law;
 mod report;
 pub mod run;
 pub mod status;
 #[cfg(test)]
 mod tests;
-#[cfg(test)]
-mod token_tests;
-#[cfg(test)]
-mod tree_tests;
-#[cfg(test)]
-mod value_tests;
 pub mod words;
 
 use station_ports::os::{OsFiles, OsOut};

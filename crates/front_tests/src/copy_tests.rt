@@ -184,15 +184,28 @@ fn form_of(code: &Code) -> (usize, bool) {
     }
 }
 
+fn is_code_copied(alloc: Global) -> Result<bool, NoMemory> {
+    let code = sum(alloc)?;
+    let copy = copy_code(alloc, &code)?;
+    Ok(form_of(&copy) == (4, true))
+}
+
+fn is_task_copied(alloc: Global) -> Result<bool, NoMemory> {
+    let task = task(alloc)?;
+    let copy = copy_task_code(alloc, &task)?;
+    Ok(copy.cells.len() == 1)
+}
+
+fn is_component_copied(alloc: Global) -> Result<bool, NoMemory> {
+    let component = component(alloc)?;
+    let copy = copy_component(alloc, &component)?;
+    Ok(copy.tasks.len() == 1)
+}
+
 #[test]
 fn code_is_copied(rt: HostRuntime) {
     let alloc = rt.alloc();
-    let form = sum(alloc)
-        .and_then(|code| copy_code(alloc, &code))
-        .map(|code| form_of(&code));
-    assert_eq!(rt; form, Ok((4, true)));
-    let task = task(alloc).and_then(|task| copy_task_code(alloc, &task));
-    assert!(rt; task.is_ok_and(|task| task.cells.len() == 1));
-    let component = component(alloc).and_then(|component| copy_component(alloc, &component));
-    assert!(rt; component.is_ok_and(|component| component.tasks.len() == 1));
+    assert!(rt; is_code_copied(alloc) == Ok(true));
+    assert!(rt; is_task_copied(alloc) == Ok(true));
+    assert!(rt; is_component_copied(alloc) == Ok(true));
 }

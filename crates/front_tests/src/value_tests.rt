@@ -111,37 +111,60 @@ const ADDRESSES: [(&str, Option<(Area, Width, &str)>); 16] = [
     ("%", None),
 ];
 
+/// Whether a number has this value.
+fn has_number(text: &str, value: Option<u128>) -> bool {
+    number_value(text.as_bytes()) == value
+}
+
+/// Whether a typed number has this type, sign and size.
+fn has_typed(text: &str, value: Option<(Elem, bool, u128)>) -> bool {
+    typed_value(text.as_bytes()).map(|v| (v.elem, v.negative, v.size)) == value
+}
+
+/// Whether a time has this value in milliseconds.
+fn has_time(text: &str, value: Option<i64>) -> bool {
+    time_value(text.as_bytes()) == value
+}
+
+/// Whether an address has this area, width and numbers.
+fn has_address(text: &str, value: Option<(Area, Width, &str)>) -> bool {
+    match (address_value(text.as_bytes()), value) {
+        (None, None) => true,
+        (Some(found), Some((area, width, numbers))) => {
+            found.area == area && found.width == width && found.numbers == numbers.as_bytes()
+        }
+        _ => false,
+    }
+}
+
 #[test]
 fn values_of_numbers(rt: HostRuntime) {
     for (text, value) in &NUMBERS {
-        assert_eq!(rt; number_value(text.as_bytes()), *value, "{text}");
+        assert!(rt; has_number(text, *value), "{text}");
     }
-    assert_eq!(rt; with_sign(true, 5), Some(-5));
-    assert_eq!(rt; with_sign(false, 5), Some(5));
-    assert_eq!(rt; with_sign(true, 1 << 127), None);
+    assert!(rt; with_sign(true, 5) == Some(-5));
+    assert!(rt; with_sign(false, 5) == Some(5));
+    assert!(rt; with_sign(true, 1 << 127).is_none());
 }
 
 #[test]
 fn values_of_typed_numbers(rt: HostRuntime) {
     for (text, value) in &TYPED {
-        let found = typed_value(text.as_bytes()).map(|v| (v.elem, v.negative, v.size));
-        assert_eq!(rt; found, *value, "{text}");
+        assert!(rt; has_typed(text, *value), "{text}");
     }
 }
 
 #[test]
 fn values_of_times(rt: HostRuntime) {
     for (text, value) in &TIMES {
-        assert_eq!(rt; time_value(text.as_bytes()), *value, "{text}");
+        assert!(rt; has_time(text, *value), "{text}");
     }
 }
 
 #[test]
 fn values_of_addresses(rt: HostRuntime) {
     for (text, value) in &ADDRESSES {
-        let found = address_value(text.as_bytes()).map(|a| (a.area, a.width, a.numbers));
-        let wanted = value.map(|(area, width, numbers)| (area, width, numbers.as_bytes()));
-        assert_eq!(rt; found, wanted, "{text}");
+        assert!(rt; has_address(text, *value), "{text}");
     }
-    assert_eq!(rt; Width::LongWord.elem(), Elem::Lword);
+    assert!(rt; Width::LongWord.elem() == Elem::Lword);
 }

@@ -2,7 +2,7 @@
 ghost use Rattle.std.specs.Prelude.{◌≡◌};
 
 use iec_tables::fault::FaultCode;
-use st_lexer::{LexFault, tokens};
+use st_lexer::tokens;
 use st_tree::{BinaryOperator, Body, Expr, SourceTree, Stmt, Unit};
 use st_units::{ParseFault, expression, parse_file, sfc_body, statements};
 use station_ports::steps::Steps;
@@ -11,13 +11,13 @@ use std::marker::Brand;
 use std::sync::ledger::{Blank, Ledger};
 use tree_copies::Copied;
 
-/// An operator between two operands, with its number, its first byte and the byte after its last.
-fn binary(tree: &Expr) -> Option<(BinaryOperator, u32, usize, usize)> {
+/// Whether this is the operator between two operands, with this number, from the first byte of the text on up to this end.
+fn is_binary(tree: &Expr, operator: BinaryOperator, number: u32, end: usize) -> bool {
     match tree {
-        Expr::Binary(node, operator, _, _) => {
-            Some((*operator, node.number.0, node.start, node.end))
+        Expr::Binary(node, found, _, _) => {
+            *found == operator && node.number.0 == number && node.start == 0 && node.end == end
         }
-        _ => None,
+        _ => false,
     }
 }
 
@@ -28,44 +28,43 @@ fn left_of(tree: &Expr) -> Option<&Expr> {
     }
 }
 
-/// The operator at the root of the expression that a text begins with, that of its left operand, and the number of the token behind.
-fn grouped(
+/// Whether the tree is two of these operators, the outer one up to the first end, that of its left operand up to the second.
+fn groups_left(tree: &Expr, operator: BinaryOperator, end: usize, inner: usize) -> bool {
+    match left_of(tree) {
+        Some(left) => is_binary(tree, operator, 0, end) && is_binary(left, operator, 1, inner),
+        None => false,
+    }
+}
+
+/// Whether a text begins with two of these operators that group to the left, and the token behind has this number.
+fn is_grouped(
     alloc: Global,
     text: &str,
-) -> Option<
-    (
-        Option<(BinaryOperator, u32, usize, usize)>,
-        Option<(BinaryOperator, u32, usize, usize)>,
-        usize,
-    ),
-> {
-    let tokens = tokens(alloc, text.as_bytes()).ok()?;
-    let (tree, behind) = expression(alloc, &tokens, 0, 0).ok()?;
-    let inner = match left_of(&tree) {
-        Some(left) => binary(left),
-        None => None,
+    operator: BinaryOperator,
+    ends: (usize, usize),
+    behind: usize,
+) -> bool {
+    let Ok(tokens) = tokens(alloc, text.as_bytes()) else {
+        return false;
     };
-    Some((binary(&tree), inner, behind))
+    match &expression(alloc, &tokens, 0, 0) {
+        Ok((tree, found)) => *found == behind && groups_left(tree, operator, ends.0, ends.1),
+        Err(_) => false,
+    }
 }
 
 #[test]
 fn operators_group_to_the_left(rt: HostRuntime) {
     let alloc = rt.alloc();
-    assert_eq!(rt;
-        grouped(alloc, "a - b - c"),
-        Some((
-            Some((BinaryOperator::Subtract, 0, 0, 9)),
-            Some((BinaryOperator::Subtract, 1, 0, 5)),
-            5
-        ))
-    );
-    assert_eq!(rt;
-        grouped(alloc, "a < b (* x *) < c {y} ; d"),
-        Some((
-            Some((BinaryOperator::Less, 0, 0, 17)),
-            Some((BinaryOperator::Less, 1, 0, 5)),
+    assert!(rt; is_grouped(alloc, "a - b - c", BinaryOperator::Subtract, (9, 5), 5));
+    assert!(rt;
+        is_grouped(
+            alloc,
+            "a < b (* x *) < c {y} ; d",
+            BinaryOperator::Less,
+            (17, 5),
             7
-        ))
+        )
     );
 }
 
@@ -74,6 +73,10 @@ fn counted(alloc: Global, text: &str) -> Option<(usize, usize)> {
     let tokens = tokens(alloc, text.as_bytes()).ok()?;
     let (found, behind) = statements(alloc, &tokens, 0).ok()?;
     Some((found.len(), behind))
+}
+
+fn is_counted(alloc: Global, text: &str, wanted: Option<(usize, usize)>) -> bool {
+    counted(alloc, text) == wanted
 }
 
 /// How many parts a chart has behind its initial step with which a text begins, the number and the last byte of its node, and the number of
@@ -89,34 +92,27 @@ fn charted(alloc: Global, text: &str) -> Option<(usize, u32, usize, usize)> {
     ))
 }
 
+fn is_charted(alloc: Global, text: &str, wanted: Option<(usize, u32, usize, usize)>) -> bool {
+    charted(alloc, text) == wanted
+}
+
 #[test]
 fn charts_end_where_they_do(rt: HostRuntime) {
     let alloc = rt.alloc();
-    assert_eq!(rt;
-        charted(
-            alloc,
-            "INITIAL_STEP S: A(N); END_STEP (* x *) STEP T: END_STEP END_PROGRAM"
-        ),
-        Some((1, 0, 55, 14))
-    );
-    assert_eq!(rt;
-        charted(alloc, "INITIAL_STEP S: END_STEP a"),
-        Some((0, 0, 24, 4))
-    );
-    assert_eq!(rt; charted(alloc, "INITIAL_STEP S: END_STEP STEP"), None);
-    assert_eq!(rt; charted(alloc, "STEP S: END_STEP"), None);
-    assert_eq!(rt; charted(alloc, ""), None);
+    let text = "INITIAL_STEP S: A(N); END_STEP (* x *) STEP T: END_STEP END_PROGRAM";
+    assert!(rt; is_charted(alloc, text, Some((1, 0, 55, 14))));
+    assert!(rt; is_charted(alloc, "INITIAL_STEP S: END_STEP a", Some((0, 0, 24, 4))));
+    assert!(rt; is_charted(alloc, "INITIAL_STEP S: END_STEP STEP", None));
+    assert!(rt; is_charted(alloc, "STEP S: END_STEP", None));
+    assert!(rt; is_charted(alloc, "", None));
 }
 
 #[test]
 fn statements_end_where_they_do(rt: HostRuntime) {
     let alloc = rt.alloc();
-    assert_eq!(rt;
-        counted(alloc, "a := 1;; (* x *) b(); END_IF"),
-        Some((2, 10))
-    );
-    assert_eq!(rt; counted(alloc, ""), Some((0, 0)));
-    assert_eq!(rt; counted(alloc, "a := 1"), None);
+    assert!(rt; is_counted(alloc, "a := 1;; (* x *) b(); END_IF", Some((2, 10))));
+    assert!(rt; is_counted(alloc, "", Some((0, 0))));
+    assert!(rt; is_counted(alloc, "a := 1", None));
 }
 
 /// What stands at the front of the tokens of a text from a number on, at a depth: the number of the token behind an expression, or a fault and
@@ -203,25 +199,33 @@ const FRONTS: [Front; 12] = [
     },
 ];
 
-/// What is read of a front; nothing where the text isn't cut or there is no memory.
-fn read_front(alloc: Global, front: &Front) -> Option<Result<usize, (FaultCode, usize)>> {
-    let tokens = tokens(alloc, front.text.as_bytes()).ok()?;
+/// Whether this is what is read of the front.
+fn is_read(front: &Front, read: &Result<(Expr, usize), ParseFault>) -> bool {
+    match (read, front.behind) {
+        (Ok((_, behind)), Ok(wanted)) => *behind == wanted,
+        (Err(ParseFault::At { code, at }), Err((wanted, place))) => {
+            *code == wanted && *at == place
+        }
+        _ => false,
+    }
+}
+
+/// Whether the front is read as it is to be; not where the text isn't cut or there is no memory.
+fn is_front(alloc: Global, front: &Front) -> bool {
+    let Ok(tokens) = tokens(alloc, front.text.as_bytes()) else {
+        return false;
+    };
     if front.from > tokens.list.len() || front.outer > 256 {
-        return None;
+        return false;
     }
-    match expression(alloc, &tokens, front.from, front.outer) {
-        Ok((_, behind)) => Some(Ok(behind)),
-        Err(ParseFault::At { code, at }) => Some(Err((code, at))),
-        Err(ParseFault::Lex(_) | ParseFault::NoMemory) => None,
-    }
+    is_read(front, &expression(alloc, &tokens, front.from, front.outer))
 }
 
 #[test]
 fn fronts_of_token_lists(rt: HostRuntime) {
     for front in &FRONTS {
-        assert_eq!(rt;
-            read_front(rt.alloc(), front),
-            Some(front.behind),
+        assert!(rt;
+            is_front(rt.alloc(), front),
             "{} from {} at depth {}",
             front.text,
             front.from,
@@ -256,27 +260,13 @@ fn parsed_text(rt: &HostRuntime, text: &str) -> Answer {
     parsed::<Brand>(rt, Blank::new(2), text.as_bytes())
 }
 
-/// Whether this is a tree that can be copied, or a refusal for this fault.
-fn is_taken(alloc: Global, answer: &Result<SourceTree, ParseFault>, fault: &str) -> bool {
-    match answer {
-        Ok(tree) => fault.is_empty() && tree.copy(alloc).is_ok(),
-        Err(ParseFault::At { code, .. } | ParseFault::Lex(LexFault::At { code, .. })) => {
-            !fault.is_empty() && fault.ends_with(code.name())
-        }
-        Err(_) => false,
-    }
-}
-
 /// Whether a text has a tree that can be copied.
 pub(crate) fn has_copied_tree(rt: &HostRuntime, text: &str) -> bool {
     let found = parsed_text(rt, text);
-    is_taken(rt.alloc(), &found.result, "")
-}
-
-/// Whether a text has a tree that can be copied, or is refused for this fault, with so many parse steps.
-pub(crate) fn is_tree_of(rt: &HostRuntime, text: &str, fault: &str, steps: u64) -> bool {
-    let found = parsed_text(rt, text);
-    found.steps == steps && is_taken(rt.alloc(), &found.result, fault)
+    match &found.result {
+        Ok(tree) => tree.copy(rt.alloc()).is_ok(),
+        Err(_) => false,
+    }
 }
 
 /// The numbers of a unit, of its name, of its first section and of its first statement, if that is an assignment.
@@ -304,19 +294,23 @@ fn comment_numbers(tree: &SourceTree) -> Option<(u32, u32, u32)> {
     ))
 }
 
+/// Whether the nodes, the comments and the line feeds of the file are as they were worked out.
+fn is_numbered(tree: &SourceTree) -> bool {
+    tree.units.get(0).and_then(numbers_of) == Some((1, 2, 4, 9))
+        && comment_numbers(tree) == Some((0, 3, 13))
+        && tree.comments.get(1).map(|comment| comment.text.bytes()) == Some(b"// d".as_slice())
+        && tree.feeds.as_slice() == [22usize, 67].as_slice()
+}
+
+fn is_parsed_as_numbered(rt: &HostRuntime, text: &str, steps: u64) -> bool {
+    let found = parsed_text(rt, text);
+    match &found.result {
+        Ok(tree) => found.steps == steps && is_numbered(tree),
+        Err(_) => false,
+    }
+}
+
 #[test]
 fn nodes_and_comments_are_numbered(rt: HostRuntime) {
-    let found = parsed_text(&rt, FILE);
-    assert_eq!(rt; found.steps, 17);
-    let Ok(tree) = found.result else {
-        assert!(rt; false, "refused");
-        return;
-    };
-    assert_eq!(rt; tree.units.get(0).and_then(numbers_of), Some((1, 2, 4, 9)));
-    assert_eq!(rt; comment_numbers(&tree), Some((0, 3, 13)));
-    assert_eq!(rt;
-        tree.comments.get(1).map(|comment| comment.text.bytes()),
-        Some(b"// d".as_slice())
-    );
-    assert_eq!(rt; tree.feeds.as_slice(), [22usize, 67].as_slice());
+    assert!(rt; is_parsed_as_numbered(&rt, FILE, 17));
 }

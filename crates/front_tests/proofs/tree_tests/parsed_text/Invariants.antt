@@ -1,0 +1,4 @@
+use Rattle.front_tests.proofs.tree_tests.parsed_text.Given as goal
+
+abbrev pub ghosts-parsed : goal.ghosts-parsed
+ghosts-parsed a = record { name = a.blank.name; parts = a.blank.parts }
