@@ -687,64 +687,73 @@ fn is_cut(alloc: Global, text: &str, wanted: &[(TokenKind, &str)]) -> bool {
 #[test]
 fn single_tokens(rt: HostRuntime) {
     for (kind, text) in &SINGLE {
-        assert_eq!(rt; is_cut(rt.alloc(), text, &[(*kind, *text)]), true, "{text}");
+        assert!(rt; is_cut(rt.alloc(), text, &[(*kind, *text)]), "{text}");
     }
 }
 
 #[test]
 fn several_tokens(rt: HostRuntime) {
     for cut in &SEVERAL {
-        assert_eq!(rt;
-            is_cut(rt.alloc(), cut.text, cut.tokens),
-            true,
-            "{}",
-            cut.text
-        );
+        assert!(rt; is_cut(rt.alloc(), cut.text, cut.tokens), "{}", cut.text);
+    }
+}
+
+/// Whether the first fault of a text is this one.
+fn is_faulty(alloc: Global, text: &[u8], wanted: FaultCode, place: usize) -> bool {
+    match tokens(alloc, text) {
+        Err(LexFault::At { code, at }) => code == wanted && at == place,
+        _ => false,
     }
 }
 
 #[test]
 fn faulty_texts(rt: HostRuntime) {
     for row in &FAULTY {
-        let wanted = LexFault::At {
-            code: row.code,
-            at: row.at,
-        };
         for (index, text) in row.texts.iter().enumerate() {
-            let found = tokens(rt.alloc(), text).err();
-            assert_eq!(rt; found, Some(wanted), "text {index}");
+            assert!(rt;
+                is_faulty(rt.alloc(), text, row.code, row.at),
+                "text {index}"
+            );
         }
     }
 }
 
 #[test]
 fn keyword_rows(rt: HostRuntime) {
-    assert_eq!(rt; keywords().find(b"byte"), Some(6));
-    assert_eq!(rt; keywords().find(b"xor"), Some(79));
-    assert_eq!(rt; keywords().find(b"xo"), None);
-    assert_eq!(rt; keywords().find(b"Action"), Some(0));
-    assert_eq!(rt; keywords().find(b""), None);
-    assert_eq!(rt; keywords().find(b"xors"), None);
+    assert!(rt; keywords().find(b"byte") == Some(6));
+    assert!(rt; keywords().find(b"xor") == Some(79));
+    assert!(rt; keywords().find(b"xo").is_none());
+    assert!(rt; keywords().find(b"Action") == Some(0));
+    assert!(rt; keywords().find(b"").is_none());
+    assert!(rt; keywords().find(b"xors").is_none());
 }
 
 #[test]
 fn conversions(rt: HostRuntime) {
-    assert_eq!(rt; converts(Elem::Int, Elem::Dint), true);
-    assert_eq!(rt; converts(Elem::Dint, Elem::Int), false);
-    assert_eq!(rt; converts(Elem::Uint, Elem::Dint), true);
-    assert_eq!(rt; converts(Elem::Uint, Elem::Int), false);
-    assert_eq!(rt; converts(Elem::Int, Elem::Uint), false);
-    assert_eq!(rt; converts(Elem::Byte, Elem::Lword), true);
-    assert_eq!(rt; converts(Elem::Byte, Elem::Usint), false);
-    assert_eq!(rt; converts(Elem::Bool, Elem::Bool), true);
-    assert_eq!(rt; converts(Elem::Bool, Elem::Byte), false);
-    assert_eq!(rt; converts(Elem::Time, Elem::Lint), false);
+    assert!(rt; converts(Elem::Int, Elem::Dint));
+    assert!(rt; !converts(Elem::Dint, Elem::Int));
+    assert!(rt; converts(Elem::Uint, Elem::Dint));
+    assert!(rt; !converts(Elem::Uint, Elem::Int));
+    assert!(rt; !converts(Elem::Int, Elem::Uint));
+    assert!(rt; converts(Elem::Byte, Elem::Lword));
+    assert!(rt; !converts(Elem::Byte, Elem::Usint));
+    assert!(rt; converts(Elem::Bool, Elem::Bool));
+    assert!(rt; !converts(Elem::Bool, Elem::Byte));
+    assert!(rt; !converts(Elem::Time, Elem::Lint));
+}
+
+/// Whether the rule of this number is there, with this code.
+fn has_rule(number: u8, code: u8) -> bool {
+    match rules().find(number) {
+        Some(rule) => rule.code == code,
+        None => false,
+    }
 }
 
 #[test]
 fn rule_rows(rt: HostRuntime) {
-    assert_eq!(rt; rules().find(0).is_none(), true);
-    assert_eq!(rt; rules().find(1).map(|rule| rule.code), Some(1));
-    assert_eq!(rt; rules().find(24).map(|rule| rule.code), Some(24));
-    assert_eq!(rt; rules().find(25).is_none(), true);
+    assert!(rt; rules().find(0).is_none());
+    assert!(rt; has_rule(1, 1));
+    assert!(rt; has_rule(24, 24));
+    assert!(rt; rules().find(25).is_none());
 }

@@ -344,15 +344,20 @@ const REFUSED: [(&str, &str, &str); 32] = [
     ("PROGRAM P ; STEP s : END_STEP", "1:13", "6 Grammar"),
 ];
 
+/// Whether a call ended with this status and this output.
+fn ended(found: &Outcome, status: Status, output: &[u8]) -> bool {
+    found.status == status && found.output.as_slice() == output
+}
+
+const NOT_BUILT: &[u8] = b"VERDICT NOT ANALYSED NotBuilt\nEND open 0 waived 0\n";
+
 #[test]
 fn analysed_texts(rt: HostRuntime) -> Result<(), Fail> {
     for row in &ANALYSED {
         let found = result_over(&rt, &CHECK, row.text.as_bytes(), &[], &[])?;
-        assert_eq!(rt; found.status, row.status, "{}", row.text);
-        assert_eq!(rt;
-            found.output.as_slice(),
-            row.output.as_bytes(),
-            "{}",
+        assert!(rt;
+            ended(&found, row.status, row.output.as_bytes()),
+            "{}: {found:?}",
             row.text
         );
     }
@@ -363,11 +368,9 @@ fn analysed_texts(rt: HostRuntime) -> Result<(), Fail> {
 fn not_analysed_texts(rt: HostRuntime) -> Result<(), Fail> {
     for text in &NOT_ANALYSED {
         let found = result_over(&rt, &CHECK, text.as_bytes(), &[], &[])?;
-        assert_eq!(rt; found.status, Status::NotAnalysed, "{text}");
-        assert_eq!(rt;
-            found.output.as_slice(),
-            b"VERDICT NOT ANALYSED NotBuilt\nEND open 0 waived 0\n".as_slice(),
-            "{text}"
+        assert!(rt;
+            ended(&found, Status::NotAnalysed, NOT_BUILT),
+            "{text}: {found:?}"
         );
     }
     Ok(())
@@ -380,8 +383,10 @@ fn refused_texts(rt: HostRuntime) -> Result<(), Fail> {
         let output = format!(in rt.alloc();
             "VERDICT REFUSED a.st:{place} {fault}\nEND open 0 waived 0\n"
         )?;
-        assert_eq!(rt; found.status, Status::Refused, "{text}");
-        assert_eq!(rt; found.output.as_slice(), output.as_bytes(), "{text}");
+        assert!(rt;
+            ended(&found, Status::Refused, output.as_bytes()),
+            "{text}: {found:?}"
+        );
     }
     Ok(())
 }
@@ -389,12 +394,8 @@ fn refused_texts(rt: HostRuntime) -> Result<(), Fail> {
 #[test]
 fn refused_bytes(rt: HostRuntime) -> Result<(), Fail> {
     let found = result_over(&rt, &CHECK, b"~\xff", &[], &[])?;
-    assert_eq!(rt; found.status, Status::Refused);
-    assert_eq!(rt;
-        found.output.as_slice(),
-        b"VERDICT REFUSED a.st:1:2 1 NotUtf8\nEND open 0 waived 0\n".as_slice()
-    );
-    assert_eq!(rt; found.parsed, 0);
+    let output = b"VERDICT REFUSED a.st:1:2 1 NotUtf8\nEND open 0 waived 0\n";
+    assert!(rt; ended(&found, Status::Refused, output) && found.parsed == 0);
     Ok(())
 }
 
@@ -408,17 +409,13 @@ fn words(rt: HostRuntime) -> Result<(), Fail> {
         &["check", "a.st", "b.st"],
         &["Check", "a.st"],
     ];
+    let usage = b"USAGE check serve import-waivers export-findings generate\n";
     for words in misused {
         let found = result_over(&rt, words, b"", &[], &[])?;
-        assert_eq!(rt; found.status, Status::Usage, "{words:?}");
-        assert_eq!(rt;
-            found.output.as_slice(),
-            b"USAGE check serve import-waivers export-findings generate\n".as_slice()
-        );
+        assert!(rt; ended(&found, Status::Usage, usage), "{words:?}");
     }
     let missing = result_over(&rt, &["check", "b.st"], b"", &[], &[])?;
-    assert_eq!(rt; missing.status, Status::ReadFault);
-    assert_eq!(rt; missing.output.as_slice(), b"ERROR read b.st\n".as_slice());
+    assert!(rt; ended(&missing, Status::ReadFault, b"ERROR read b.st\n"));
     Ok(())
 }
 
@@ -426,18 +423,10 @@ fn words(rt: HostRuntime) -> Result<(), Fail> {
 fn limits(rt: HostRuntime) -> Result<(), Fail> {
     let above = vec![in rt.alloc(); b' '; 1_048_577]?;
     let found = result_over(&rt, &CHECK, &above, &[], &[])?;
-    assert_eq!(rt; found.status, Status::TooLong);
-    assert_eq!(rt;
-        found.output.as_slice(),
-        b"ERROR too long a.st\n".as_slice()
-    );
+    assert!(rt; ended(&found, Status::TooLong, b"ERROR too long a.st\n"));
     let longest = vec![in rt.alloc(); b' '; 1_048_576]?;
     let within = result_over(&rt, &CHECK, &longest, &[], &[])?;
-    assert_eq!(rt; within.status, Status::NotAnalysed);
-    assert_eq!(rt;
-        within.output.as_slice(),
-        b"VERDICT NOT ANALYSED NotBuilt\nEND open 0 waived 0\n".as_slice()
-    );
+    assert!(rt; ended(&within, Status::NotAnalysed, NOT_BUILT));
     Ok(())
 }
 
@@ -449,12 +438,8 @@ fn large_text(rt: HostRuntime) -> Result<(), Fail> {
     }
     text.extend_from_slice(b"END_PROGRAM\n")?;
     let found = result_over(&rt, &CHECK, &text, &[], &[])?;
-    assert_eq!(rt; found.status, Status::Clean);
-    assert_eq!(rt; found.parsed, 50_011);
-    assert_eq!(rt;
-        found.output.as_slice(),
-        b"VERDICT FREE\nRANGE MAIN.A 0..3\nRANGE MAIN.B 0..3\nEND open 0 waived 0\n".as_slice()
-    );
+    let output = b"VERDICT FREE\nRANGE MAIN.A 0..3\nRANGE MAIN.B 0..3\nEND open 0 waived 0\n";
+    assert!(rt; ended(&found, Status::Clean, output) && found.parsed == 50_011);
     Ok(())
 }
 
@@ -462,35 +447,33 @@ fn large_text(rt: HostRuntime) -> Result<(), Fail> {
 fn failing_calls(rt: HostRuntime) -> Result<(), Fail> {
     let text = b"PROGRAM P END_PROGRAM".as_slice();
     let read = result_over(&rt, &CHECK, text, &[1], &[])?;
-    assert_eq!(rt; read.status, Status::ReadFault);
-    assert_eq!(rt; read.output.as_slice(), b"ERROR read a.st\n".as_slice());
+    assert!(rt; ended(&read, Status::ReadFault, b"ERROR read a.st\n"));
     let put = result_over(&rt, &CHECK, text, &[], &[1])?;
-    assert_eq!(rt; put.status, Status::WriteFault);
-    assert_eq!(rt; put.output.as_slice(), b"".as_slice());
+    assert!(rt; ended(&put, Status::WriteFault, b""));
     let both = result_over(&rt, &CHECK, text, &[1], &[1])?;
-    assert_eq!(rt; both.status, Status::WriteFault);
-    assert_eq!(rt; both.output.as_slice(), b"".as_slice());
+    assert!(rt; ended(&both, Status::WriteFault, b""));
     let later = result_over(&rt, &CHECK, text, &[2], &[2])?;
-    assert_eq!(rt; later.status, Status::Clean);
-    assert_eq!(rt;
-        later.output.as_slice(),
-        b"VERDICT FREE\nEND open 0 waived 0\n".as_slice()
+    assert!(rt;
+        ended(
+            &later,
+            Status::Clean,
+            b"VERDICT FREE\nEND open 0 waived 0\n"
+        )
     );
-    assert_eq!(rt; later.parsed, 3);
-    assert_eq!(rt; later.solved, 1);
+    assert!(rt; later.parsed == 3 && later.solved == 1);
     Ok(())
 }
 
 #[test]
 fn over_sure_forms(rt: HostRuntime) -> Result<(), Fail> {
     let found = sure_result(&rt)?;
-    assert_eq!(rt; found.status, Status::NotAnalysed);
-    assert_eq!(rt;
-        found.output.as_slice(),
-        b"VERDICT NOT ANALYSED NotBuilt\nEND open 0 waived 0\n".as_slice()
-    );
-    assert_eq!(rt; found.parsed, 0);
+    assert!(rt; ended(&found, Status::NotAnalysed, NOT_BUILT) && found.parsed == 0);
     Ok(())
+}
+
+/// Whether the source gives so many bytes, or fails so.
+fn gives(source: &mut MemorySource, into: &mut [u8], wanted: Result<usize, Failed>) -> bool {
+    source.take(into) == wanted
 }
 
 #[test]
@@ -501,13 +484,12 @@ fn sources(rt: HostRuntime) -> Result<(), Fail> {
         Vec::from_slice(alloc, &[2])?,
     );
     let mut into = [0; 2];
-    assert_eq!(rt; source.take(&mut into), Ok(2));
-    assert_eq!(rt; into, *b"ab");
-    assert_eq!(rt; source.take(&mut into), Err(Failed));
-    assert_eq!(rt; source.take(&mut into), Ok(1));
-    assert_eq!(rt; source.take(&mut into), Ok(0));
+    assert!(rt; gives(&mut source, &mut into, Ok(2)) && into == *b"ab");
+    assert!(rt; gives(&mut source, &mut into, Err(Failed)));
+    assert!(rt; gives(&mut source, &mut into, Ok(1)));
+    assert!(rt; gives(&mut source, &mut into, Ok(0)));
     let mut sure = SureSource::of(Vec::from_slice(alloc, b"c")?);
-    assert_eq!(rt; sure.take(&mut into), Ok(1));
-    assert_eq!(rt; sure.take(&mut into), Ok(0));
+    assert!(rt; sure.take(&mut into) == Ok(1));
+    assert!(rt; sure.take(&mut into) == Ok(0));
     Ok(())
 }
