@@ -700,8 +700,9 @@ fn several_tokens(rt: HostRuntime) {
 
 /// Whether the first fault of a text is this one.
 fn is_faulty(alloc: Global, text: &[u8], wanted: FaultCode, place: usize) -> bool {
-    match tokens(alloc, text) {
-        Err(LexFault::At { code, at }) => code == wanted && at == place,
+    let found = tokens(alloc, text);
+    match &found {
+        Err(LexFault::At { code, at }) => *code == wanted && *at == place,
         _ => false,
     }
 }
