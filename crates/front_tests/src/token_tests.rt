@@ -5,13 +5,7 @@ use iec_tables::guidelines::rules;
 use iec_tables::words::keywords;
 use st_lexer::{LexFault, tokens};
 use std::alloc::Global;
-use token_grammar::TokenKind;
-
-/// A text, and its tokens: the kind and the text of each.
-struct Cut {
-    text: &'static str,
-    tokens: &'static [(TokenKind, &'static str)],
-}
+use token_grammar::{Token, TokenKind};
 
 /// Texts that have this first fault at this byte.
 struct Faulty {
@@ -95,382 +89,238 @@ const SINGLE: [(TokenKind, &str); 65] = [
     (TokenKind::Address, "%qL4"),
 ];
 
-/// Texts of several tokens, or of none.
-const SEVERAL: [Cut; 64] = [
-    Cut {
-        text: "2#1#",
-        tokens: &[(TokenKind::Number, "2#1"), (TokenKind::Hash, "#")],
-    },
-    Cut {
-        text: "",
-        tokens: &[],
-    },
-    Cut {
-        text: " \t\r\n",
-        tokens: &[],
-    },
-    Cut {
-        text: "\u{feff}",
-        tokens: &[],
-    },
-    Cut {
-        text: "\u{feff}x",
-        tokens: &[(TokenKind::Name, "x")],
-    },
-    Cut {
-        text: "\u{feff} 1",
-        tokens: &[(TokenKind::Number, "1")],
-    },
-    Cut {
-        text: "// a\nb",
-        tokens: &[(TokenKind::Comment, "// a"), (TokenKind::Name, "b")],
-    },
-    Cut {
-        text: "// a\r\n",
-        tokens: &[(TokenKind::Comment, "// a\r")],
-    },
-    Cut {
-        text: "// \u{e9}\n",
-        tokens: &[(TokenKind::Comment, "// \u{e9}")],
-    },
-    Cut {
-        text: "(* a *)b",
-        tokens: &[(TokenKind::Comment, "(* a *)"), (TokenKind::Name, "b")],
-    },
-    Cut {
-        text: "(* // *)x",
-        tokens: &[(TokenKind::Comment, "(* // *)"), (TokenKind::Name, "x")],
-    },
-    Cut {
-        text: "(* a\n*)x",
-        tokens: &[(TokenKind::Comment, "(* a\n*)"), (TokenKind::Name, "x")],
-    },
-    Cut {
-        text: "(* (* *) *)x",
-        tokens: &[(TokenKind::Comment, "(* (* *) *)"), (TokenKind::Name, "x")],
-    },
-    Cut {
-        text: "(*(**)*)x",
-        tokens: &[(TokenKind::Comment, "(*(**)*)"), (TokenKind::Name, "x")],
-    },
-    Cut {
-        text: "(* /* *)x",
-        tokens: &[(TokenKind::Comment, "(* /* *)"), (TokenKind::Name, "x")],
-    },
-    Cut {
-        text: "(* { *)x",
-        tokens: &[(TokenKind::Comment, "(* { *)"), (TokenKind::Name, "x")],
-    },
-    Cut {
-        text: "/* /* */ */x",
-        tokens: &[(TokenKind::Comment, "/* /* */ */"), (TokenKind::Name, "x")],
-    },
-    Cut {
-        text: "/* (* */x",
-        tokens: &[(TokenKind::Comment, "/* (* */"), (TokenKind::Name, "x")],
-    },
-    Cut {
-        text: "/* *) */x",
-        tokens: &[(TokenKind::Comment, "/* *) */"), (TokenKind::Name, "x")],
-    },
-    Cut {
-        text: "{ a }b",
-        tokens: &[(TokenKind::Pragma, "{ a }"), (TokenKind::Name, "b")],
-    },
-    Cut {
-        text: "{{}x",
-        tokens: &[(TokenKind::Pragma, "{{}"), (TokenKind::Name, "x")],
-    },
-    Cut {
-        text: "{(* }x",
-        tokens: &[(TokenKind::Pragma, "{(* }"), (TokenKind::Name, "x")],
-    },
-    Cut {
-        text: "x.y",
-        tokens: &[
-            (TokenKind::Name, "x"),
-            (TokenKind::Dot, "."),
-            (TokenKind::Name, "y"),
-        ],
-    },
-    Cut {
-        text: "True FALSE",
-        tokens: &[(TokenKind::True, "True"), (TokenKind::False, "FALSE")],
-    },
-    Cut {
-        text: "INITIAL_STEP non_retain",
-        tokens: &[
-            (TokenKind::InitialStep, "INITIAL_STEP"),
-            (TokenKind::NonRetain, "non_retain"),
-        ],
-    },
-    Cut {
-        text: "a:=1;",
-        tokens: &[
-            (TokenKind::Name, "a"),
-            (TokenKind::Becomes, ":="),
-            (TokenKind::Number, "1"),
-            (TokenKind::Semicolon, ";"),
-        ],
-    },
-    Cut {
-        text: "a: =1",
-        tokens: &[
-            (TokenKind::Name, "a"),
-            (TokenKind::Colon, ":"),
-            (TokenKind::Equal, "="),
-            (TokenKind::Number, "1"),
-        ],
-    },
-    Cut {
-        text: "=> <= >=",
-        tokens: &[
-            (TokenKind::Arrow, "=>"),
-            (TokenKind::LessEqual, "<="),
-            (TokenKind::GreaterEqual, ">="),
-        ],
-    },
-    Cut {
-        text: "<> = < >",
-        tokens: &[
-            (TokenKind::NotEqual, "<>"),
-            (TokenKind::Equal, "="),
-            (TokenKind::Less, "<"),
-            (TokenKind::Greater, ">"),
-        ],
-    },
-    Cut {
-        text: "+ - * **",
-        tokens: &[
-            (TokenKind::Plus, "+"),
-            (TokenKind::Minus, "-"),
-            (TokenKind::Star, "*"),
-            (TokenKind::Power, "**"),
-        ],
-    },
-    Cut {
-        text: "/ & ( )",
-        tokens: &[
-            (TokenKind::Slash, "/"),
-            (TokenKind::Ampersand, "&"),
-            (TokenKind::OpenParenthesis, "("),
-            (TokenKind::CloseParenthesis, ")"),
-        ],
-    },
-    Cut {
-        text: "[ ] , ;",
-        tokens: &[
-            (TokenKind::OpenBracket, "["),
-            (TokenKind::CloseBracket, "]"),
-            (TokenKind::Comma, ","),
-            (TokenKind::Semicolon, ";"),
-        ],
-    },
-    Cut {
-        text: ": . .. #",
-        tokens: &[
-            (TokenKind::Colon, ":"),
-            (TokenKind::Dot, "."),
-            (TokenKind::DotDot, ".."),
-            (TokenKind::Hash, "#"),
-        ],
-    },
-    Cut {
-        text: "***",
-        tokens: &[(TokenKind::Power, "**"), (TokenKind::Star, "*")],
-    },
-    Cut {
-        text: "...",
-        tokens: &[(TokenKind::DotDot, ".."), (TokenKind::Dot, ".")],
-    },
-    Cut {
-        text: "<=>",
-        tokens: &[(TokenKind::LessEqual, "<="), (TokenKind::Greater, ">")],
-    },
-    Cut {
-        text: "<>=",
-        tokens: &[(TokenKind::NotEqual, "<>"), (TokenKind::Equal, "=")],
-    },
-    Cut {
-        text: ":==",
-        tokens: &[(TokenKind::Becomes, ":="), (TokenKind::Equal, "=")],
-    },
-    Cut {
-        text: "=>=",
-        tokens: &[(TokenKind::Arrow, "=>"), (TokenKind::Equal, "=")],
-    },
-    Cut {
-        text: "><",
-        tokens: &[(TokenKind::Greater, ">"), (TokenKind::Less, "<")],
-    },
-    Cut {
-        text: "*)",
-        tokens: &[(TokenKind::Star, "*"), (TokenKind::CloseParenthesis, ")")],
-    },
-    Cut {
-        text: "( *",
-        tokens: &[(TokenKind::OpenParenthesis, "("), (TokenKind::Star, "*")],
-    },
-    Cut {
-        text: "/ /",
-        tokens: &[(TokenKind::Slash, "/"), (TokenKind::Slash, "/")],
-    },
-    Cut {
-        text: "-5",
-        tokens: &[(TokenKind::Minus, "-"), (TokenKind::Number, "5")],
-    },
-    Cut {
-        text: "1..10",
-        tokens: &[
-            (TokenKind::Number, "1"),
-            (TokenKind::DotDot, ".."),
-            (TokenKind::Number, "10"),
-        ],
-    },
-    Cut {
-        text: "16#F..2",
-        tokens: &[
-            (TokenKind::Number, "16#F"),
-            (TokenKind::DotDot, ".."),
-            (TokenKind::Number, "2"),
-        ],
-    },
-    Cut {
-        text: "1.",
-        tokens: &[(TokenKind::Number, "1"), (TokenKind::Dot, ".")],
-    },
-    Cut {
-        text: "1.a",
-        tokens: &[
-            (TokenKind::Number, "1"),
-            (TokenKind::Dot, "."),
-            (TokenKind::Name, "a"),
-        ],
-    },
-    Cut {
-        text: "3#1",
-        tokens: &[
-            (TokenKind::Number, "3"),
-            (TokenKind::Hash, "#"),
-            (TokenKind::Number, "1"),
-        ],
-    },
-    Cut {
-        text: "02#1",
-        tokens: &[
-            (TokenKind::Number, "02"),
-            (TokenKind::Hash, "#"),
-            (TokenKind::Number, "1"),
-        ],
-    },
-    Cut {
-        text: "160#1",
-        tokens: &[
-            (TokenKind::Number, "160"),
-            (TokenKind::Hash, "#"),
-            (TokenKind::Number, "1"),
-        ],
-    },
-    Cut {
-        text: "1_6#F",
-        tokens: &[
-            (TokenKind::Number, "1_6"),
-            (TokenKind::Hash, "#"),
-            (TokenKind::Name, "F"),
-        ],
-    },
-    Cut {
-        text: "16 #F",
-        tokens: &[
-            (TokenKind::Number, "16"),
-            (TokenKind::Hash, "#"),
-            (TokenKind::Name, "F"),
-        ],
-    },
-    Cut {
-        text: "INT#5..6",
-        tokens: &[
-            (TokenKind::TypedNumber, "INT#5"),
-            (TokenKind::DotDot, ".."),
-            (TokenKind::Number, "6"),
-        ],
-    },
-    Cut {
-        text: "INT#5.x",
-        tokens: &[
-            (TokenKind::TypedNumber, "INT#5"),
-            (TokenKind::Dot, "."),
-            (TokenKind::Name, "x"),
-        ],
-    },
-    Cut {
-        text: "INT#3#1",
-        tokens: &[
-            (TokenKind::TypedNumber, "INT#3"),
-            (TokenKind::Hash, "#"),
-            (TokenKind::Number, "1"),
-        ],
-    },
-    Cut {
-        text: "INT #5",
-        tokens: &[
-            (TokenKind::Int, "INT"),
-            (TokenKind::Hash, "#"),
-            (TokenKind::Number, "5"),
-        ],
-    },
-    Cut {
-        text: "INTx#5",
-        tokens: &[
-            (TokenKind::Name, "INTx"),
-            (TokenKind::Hash, "#"),
-            (TokenKind::Number, "5"),
-        ],
-    },
-    Cut {
-        text: "DATE#1",
-        tokens: &[
-            (TokenKind::Name, "DATE"),
-            (TokenKind::Hash, "#"),
-            (TokenKind::Number, "1"),
-        ],
-    },
-    Cut {
-        text: "T#1s..T#2s",
-        tokens: &[
-            (TokenKind::Duration, "T#1s"),
-            (TokenKind::DotDot, ".."),
-            (TokenKind::Duration, "T#2s"),
-        ],
-    },
-    Cut {
-        text: "TIME #1",
-        tokens: &[
-            (TokenKind::Time, "TIME"),
-            (TokenKind::Hash, "#"),
-            (TokenKind::Number, "1"),
-        ],
-    },
-    Cut {
-        text: "T:",
-        tokens: &[(TokenKind::Name, "T"), (TokenKind::Colon, ":")],
-    },
-    Cut {
-        text: "%I1.a",
-        tokens: &[
-            (TokenKind::Address, "%I1"),
-            (TokenKind::Dot, "."),
-            (TokenKind::Name, "a"),
-        ],
-    },
-    Cut {
-        text: "%I1..2",
-        tokens: &[
-            (TokenKind::Address, "%I1"),
-            (TokenKind::DotDot, ".."),
-            (TokenKind::Number, "2"),
-        ],
-    },
+/// Texts, and how many tokens they are cut into.
+const COUNTS: [(&str, usize); 64] = [
+    ("2#1#", 2),
+    ("", 0),
+    (" \t\r\n", 0),
+    ("\u{feff}", 0),
+    ("\u{feff}x", 1),
+    ("\u{feff} 1", 1),
+    ("// a\nb", 2),
+    ("// a\r\n", 1),
+    ("// \u{e9}\n", 1),
+    ("(* a *)b", 2),
+    ("(* // *)x", 2),
+    ("(* a\n*)x", 2),
+    ("(* (* *) *)x", 2),
+    ("(*(**)*)x", 2),
+    ("(* /* *)x", 2),
+    ("(* { *)x", 2),
+    ("/* /* */ */x", 2),
+    ("/* (* */x", 2),
+    ("/* *) */x", 2),
+    ("{ a }b", 2),
+    ("{{}x", 2),
+    ("{(* }x", 2),
+    ("x.y", 3),
+    ("True FALSE", 2),
+    ("INITIAL_STEP non_retain", 2),
+    ("a:=1;", 4),
+    ("a: =1", 4),
+    ("=> <= >=", 3),
+    ("<> = < >", 4),
+    ("+ - * **", 4),
+    ("/ & ( )", 4),
+    ("[ ] , ;", 4),
+    (": . .. #", 4),
+    ("***", 2),
+    ("...", 2),
+    ("<=>", 2),
+    ("<>=", 2),
+    (":==", 2),
+    ("=>=", 2),
+    ("><", 2),
+    ("*)", 2),
+    ("( *", 2),
+    ("/ /", 2),
+    ("-5", 2),
+    ("1..10", 3),
+    ("16#F..2", 3),
+    ("1.", 2),
+    ("1.a", 3),
+    ("3#1", 3),
+    ("02#1", 3),
+    ("160#1", 3),
+    ("1_6#F", 3),
+    ("16 #F", 3),
+    ("INT#5..6", 3),
+    ("INT#5.x", 3),
+    ("INT#3#1", 3),
+    ("INT #5", 3),
+    ("INTx#5", 3),
+    ("DATE#1", 3),
+    ("T#1s..T#2s", 3),
+    ("TIME #1", 3),
+    ("T:", 2),
+    ("%I1.a", 3),
+    ("%I1..2", 3),
+];
+
+/// Texts of several tokens, the number of one of them, its kind and its part of the text.
+const PARTS: [(&str, usize, TokenKind, &str); 152] = [
+    ("2#1#", 0, TokenKind::Number, "2#1"),
+    ("2#1#", 1, TokenKind::Hash, "#"),
+    ("\u{feff}x", 0, TokenKind::Name, "x"),
+    ("\u{feff} 1", 0, TokenKind::Number, "1"),
+    ("// a\nb", 0, TokenKind::Comment, "// a"),
+    ("// a\nb", 1, TokenKind::Name, "b"),
+    ("// a\r\n", 0, TokenKind::Comment, "// a\r"),
+    ("// \u{e9}\n", 0, TokenKind::Comment, "// \u{e9}"),
+    ("(* a *)b", 0, TokenKind::Comment, "(* a *)"),
+    ("(* a *)b", 1, TokenKind::Name, "b"),
+    ("(* // *)x", 0, TokenKind::Comment, "(* // *)"),
+    ("(* // *)x", 1, TokenKind::Name, "x"),
+    ("(* a\n*)x", 0, TokenKind::Comment, "(* a\n*)"),
+    ("(* a\n*)x", 1, TokenKind::Name, "x"),
+    ("(* (* *) *)x", 0, TokenKind::Comment, "(* (* *) *)"),
+    ("(* (* *) *)x", 1, TokenKind::Name, "x"),
+    ("(*(**)*)x", 0, TokenKind::Comment, "(*(**)*)"),
+    ("(*(**)*)x", 1, TokenKind::Name, "x"),
+    ("(* /* *)x", 0, TokenKind::Comment, "(* /* *)"),
+    ("(* /* *)x", 1, TokenKind::Name, "x"),
+    ("(* { *)x", 0, TokenKind::Comment, "(* { *)"),
+    ("(* { *)x", 1, TokenKind::Name, "x"),
+    ("/* /* */ */x", 0, TokenKind::Comment, "/* /* */ */"),
+    ("/* /* */ */x", 1, TokenKind::Name, "x"),
+    ("/* (* */x", 0, TokenKind::Comment, "/* (* */"),
+    ("/* (* */x", 1, TokenKind::Name, "x"),
+    ("/* *) */x", 0, TokenKind::Comment, "/* *) */"),
+    ("/* *) */x", 1, TokenKind::Name, "x"),
+    ("{ a }b", 0, TokenKind::Pragma, "{ a }"),
+    ("{ a }b", 1, TokenKind::Name, "b"),
+    ("{{}x", 0, TokenKind::Pragma, "{{}"),
+    ("{{}x", 1, TokenKind::Name, "x"),
+    ("{(* }x", 0, TokenKind::Pragma, "{(* }"),
+    ("{(* }x", 1, TokenKind::Name, "x"),
+    ("x.y", 0, TokenKind::Name, "x"),
+    ("x.y", 1, TokenKind::Dot, "."),
+    ("x.y", 2, TokenKind::Name, "y"),
+    ("True FALSE", 0, TokenKind::True, "True"),
+    ("True FALSE", 1, TokenKind::False, "FALSE"),
+    (
+        "INITIAL_STEP non_retain",
+        0,
+        TokenKind::InitialStep,
+        "INITIAL_STEP",
+    ),
+    (
+        "INITIAL_STEP non_retain",
+        1,
+        TokenKind::NonRetain,
+        "non_retain",
+    ),
+    ("a:=1;", 0, TokenKind::Name, "a"),
+    ("a:=1;", 1, TokenKind::Becomes, ":="),
+    ("a:=1;", 2, TokenKind::Number, "1"),
+    ("a:=1;", 3, TokenKind::Semicolon, ";"),
+    ("a: =1", 0, TokenKind::Name, "a"),
+    ("a: =1", 1, TokenKind::Colon, ":"),
+    ("a: =1", 2, TokenKind::Equal, "="),
+    ("a: =1", 3, TokenKind::Number, "1"),
+    ("=> <= >=", 0, TokenKind::Arrow, "=>"),
+    ("=> <= >=", 1, TokenKind::LessEqual, "<="),
+    ("=> <= >=", 2, TokenKind::GreaterEqual, ">="),
+    ("<> = < >", 0, TokenKind::NotEqual, "<>"),
+    ("<> = < >", 1, TokenKind::Equal, "="),
+    ("<> = < >", 2, TokenKind::Less, "<"),
+    ("<> = < >", 3, TokenKind::Greater, ">"),
+    ("+ - * **", 0, TokenKind::Plus, "+"),
+    ("+ - * **", 1, TokenKind::Minus, "-"),
+    ("+ - * **", 2, TokenKind::Star, "*"),
+    ("+ - * **", 3, TokenKind::Power, "**"),
+    ("/ & ( )", 0, TokenKind::Slash, "/"),
+    ("/ & ( )", 1, TokenKind::Ampersand, "&"),
+    ("/ & ( )", 2, TokenKind::OpenParenthesis, "("),
+    ("/ & ( )", 3, TokenKind::CloseParenthesis, ")"),
+    ("[ ] , ;", 0, TokenKind::OpenBracket, "["),
+    ("[ ] , ;", 1, TokenKind::CloseBracket, "]"),
+    ("[ ] , ;", 2, TokenKind::Comma, ","),
+    ("[ ] , ;", 3, TokenKind::Semicolon, ";"),
+    (": . .. #", 0, TokenKind::Colon, ":"),
+    (": . .. #", 1, TokenKind::Dot, "."),
+    (": . .. #", 2, TokenKind::DotDot, ".."),
+    (": . .. #", 3, TokenKind::Hash, "#"),
+    ("***", 0, TokenKind::Power, "**"),
+    ("***", 1, TokenKind::Star, "*"),
+    ("...", 0, TokenKind::DotDot, ".."),
+    ("...", 1, TokenKind::Dot, "."),
+    ("<=>", 0, TokenKind::LessEqual, "<="),
+    ("<=>", 1, TokenKind::Greater, ">"),
+    ("<>=", 0, TokenKind::NotEqual, "<>"),
+    ("<>=", 1, TokenKind::Equal, "="),
+    (":==", 0, TokenKind::Becomes, ":="),
+    (":==", 1, TokenKind::Equal, "="),
+    ("=>=", 0, TokenKind::Arrow, "=>"),
+    ("=>=", 1, TokenKind::Equal, "="),
+    ("><", 0, TokenKind::Greater, ">"),
+    ("><", 1, TokenKind::Less, "<"),
+    ("*)", 0, TokenKind::Star, "*"),
+    ("*)", 1, TokenKind::CloseParenthesis, ")"),
+    ("( *", 0, TokenKind::OpenParenthesis, "("),
+    ("( *", 1, TokenKind::Star, "*"),
+    ("/ /", 0, TokenKind::Slash, "/"),
+    ("/ /", 1, TokenKind::Slash, "/"),
+    ("-5", 0, TokenKind::Minus, "-"),
+    ("-5", 1, TokenKind::Number, "5"),
+    ("1..10", 0, TokenKind::Number, "1"),
+    ("1..10", 1, TokenKind::DotDot, ".."),
+    ("1..10", 2, TokenKind::Number, "10"),
+    ("16#F..2", 0, TokenKind::Number, "16#F"),
+    ("16#F..2", 1, TokenKind::DotDot, ".."),
+    ("16#F..2", 2, TokenKind::Number, "2"),
+    ("1.", 0, TokenKind::Number, "1"),
+    ("1.", 1, TokenKind::Dot, "."),
+    ("1.a", 0, TokenKind::Number, "1"),
+    ("1.a", 1, TokenKind::Dot, "."),
+    ("1.a", 2, TokenKind::Name, "a"),
+    ("3#1", 0, TokenKind::Number, "3"),
+    ("3#1", 1, TokenKind::Hash, "#"),
+    ("3#1", 2, TokenKind::Number, "1"),
+    ("02#1", 0, TokenKind::Number, "02"),
+    ("02#1", 1, TokenKind::Hash, "#"),
+    ("02#1", 2, TokenKind::Number, "1"),
+    ("160#1", 0, TokenKind::Number, "160"),
+    ("160#1", 1, TokenKind::Hash, "#"),
+    ("160#1", 2, TokenKind::Number, "1"),
+    ("1_6#F", 0, TokenKind::Number, "1_6"),
+    ("1_6#F", 1, TokenKind::Hash, "#"),
+    ("1_6#F", 2, TokenKind::Name, "F"),
+    ("16 #F", 0, TokenKind::Number, "16"),
+    ("16 #F", 1, TokenKind::Hash, "#"),
+    ("16 #F", 2, TokenKind::Name, "F"),
+    ("INT#5..6", 0, TokenKind::TypedNumber, "INT#5"),
+    ("INT#5..6", 1, TokenKind::DotDot, ".."),
+    ("INT#5..6", 2, TokenKind::Number, "6"),
+    ("INT#5.x", 0, TokenKind::TypedNumber, "INT#5"),
+    ("INT#5.x", 1, TokenKind::Dot, "."),
+    ("INT#5.x", 2, TokenKind::Name, "x"),
+    ("INT#3#1", 0, TokenKind::TypedNumber, "INT#3"),
+    ("INT#3#1", 1, TokenKind::Hash, "#"),
+    ("INT#3#1", 2, TokenKind::Number, "1"),
+    ("INT #5", 0, TokenKind::Int, "INT"),
+    ("INT #5", 1, TokenKind::Hash, "#"),
+    ("INT #5", 2, TokenKind::Number, "5"),
+    ("INTx#5", 0, TokenKind::Name, "INTx"),
+    ("INTx#5", 1, TokenKind::Hash, "#"),
+    ("INTx#5", 2, TokenKind::Number, "5"),
+    ("DATE#1", 0, TokenKind::Name, "DATE"),
+    ("DATE#1", 1, TokenKind::Hash, "#"),
+    ("DATE#1", 2, TokenKind::Number, "1"),
+    ("T#1s..T#2s", 0, TokenKind::Duration, "T#1s"),
+    ("T#1s..T#2s", 1, TokenKind::DotDot, ".."),
+    ("T#1s..T#2s", 2, TokenKind::Duration, "T#2s"),
+    ("TIME #1", 0, TokenKind::Time, "TIME"),
+    ("TIME #1", 1, TokenKind::Hash, "#"),
+    ("TIME #1", 2, TokenKind::Number, "1"),
+    ("T:", 0, TokenKind::Name, "T"),
+    ("T:", 1, TokenKind::Colon, ":"),
+    ("%I1.a", 0, TokenKind::Address, "%I1"),
+    ("%I1.a", 1, TokenKind::Dot, "."),
+    ("%I1.a", 2, TokenKind::Name, "a"),
+    ("%I1..2", 0, TokenKind::Address, "%I1"),
+    ("%I1..2", 1, TokenKind::DotDot, ".."),
+    ("%I1..2", 2, TokenKind::Number, "2"),
 ];
 
 const FAULTY: [Faulty; 17] = [
@@ -667,34 +517,49 @@ const FAULTY: [Faulty; 17] = [
     },
 ];
 
-/// Whether the text is cut into these tokens.
-fn is_cut(alloc: Global, text: &str, wanted: &[(TokenKind, &str)]) -> bool {
-    let bytes = text.as_bytes();
-    let Ok(found) = tokens(alloc, bytes) else {
-        return false;
-    };
-    if found.list.len() != wanted.len() {
-        return false;
+/// Whether the text is cut into so many tokens.
+fn has_count(alloc: Global, text: &str, count: usize) -> bool {
+    match &tokens(alloc, text.as_bytes()) {
+        Ok(found) => found.list.len() == count,
+        Err(_) => false,
     }
-    for (token, (kind, part)) in found.list.as_slice().iter().zip(wanted) {
-        if token.kind != *kind || bytes.get(token.start..token.end) != Some(part.as_bytes()) {
-            return false;
-        }
+}
+
+/// Whether the token is of this kind, and this part of the text.
+fn is_part(token: &Token, text: &str, kind: TokenKind, part: &str) -> bool {
+    token.kind == kind && text.as_bytes().get(token.start..token.end) == Some(part.as_bytes())
+}
+
+/// Whether the token of this number is of this kind, and this part of the text.
+fn has_token(alloc: Global, text: &str, at: usize, kind: TokenKind, part: &str) -> bool {
+    match &tokens(alloc, text.as_bytes()) {
+        Ok(found) => match found.list.get(at) {
+            Some(token) => is_part(token, text, kind, part),
+            None => false,
+        },
+        Err(_) => false,
     }
-    true
 }
 
 #[test]
 fn single_tokens(rt: HostRuntime) {
     for (kind, text) in &SINGLE {
-        assert!(rt; is_cut(rt.alloc(), text, &[(*kind, *text)]), "{text}");
+        assert!(rt; has_count(rt.alloc(), text, 1), "{text}");
+        assert!(rt; has_token(rt.alloc(), text, 0, *kind, text), "{text}");
+    }
+}
+
+#[test]
+fn numbers_of_tokens(rt: HostRuntime) {
+    for (text, count) in &COUNTS {
+        assert!(rt; has_count(rt.alloc(), text, *count), "{text}");
     }
 }
 
 #[test]
 fn several_tokens(rt: HostRuntime) {
-    for cut in &SEVERAL {
-        assert!(rt; is_cut(rt.alloc(), cut.text, cut.tokens), "{}", cut.text);
+    for (text, at, kind, part) in &PARTS {
+        assert!(rt; has_token(rt.alloc(), text, *at, *kind, part), "{text}");
     }
 }
 
