@@ -6,7 +6,7 @@ use Rattle.interval_domain.specs.Interval.{Interval, Empty, Span, Holds, IsWithi
 use Rattle.interval_domain.specs.Operators.{kept}
 use Rattle.interval_domain.specs.Arithmetic.{hull_of}
 use Rattle.interval_domain.specs.Stored.{span-ordered, span-reversed}
-use Rattle.interval_domain.proofs.Bounds.{kept-le, through}
+use Rattle.interval_domain.proofs.Bounds.{kept-le}
 
 -- z lies between p and q, in either order
 abbrev pub IsBetween : ℤ → ℤ → ℤ → Type 0
@@ -52,12 +52,6 @@ pub hull_of-within : (p q r s : ℤ) (j : Interval) → Holds j p → Holds j q 
 hull_of-within p q r s Empty h i k l = absurd h
 hull_of-within p q r s (Span a b) h i k l = (omega (arith, ints, clamps), omega (arith, ints, clamps))
 
-pub hull-within : (i j k : Interval) → IsWithin i k → IsWithin j k → IsWithin (hull i j) k
-hull-within Empty j k h l = l
-hull-within (Span a b) Empty k h l = h
-hull-within (Span a b) (Span c d) Empty h l = absurd h
-hull-within (Span a b) (Span c d) (Span e f) h l = (omega (arith, ints, clamps), omega (arith, ints, clamps))
-
 pub hull-left : (i j : Interval) (z : ℤ) → Holds i z → Holds (hull i j) z
 hull-left Empty j z h = absurd h
 hull-left (Span a b) Empty z h = h
@@ -73,21 +67,9 @@ holds-within Empty j z h k = absurd k
 holds-within (Span a b) Empty z h k = absurd h
 holds-within (Span a b) (Span c d) z h k = (omega (arith, ints), omega (arith, ints))
 
--- the ends of an interval in order are in it
-pub ordered-low : (a b : ℤ) → a ≤ℤ b → Holds (Span a b) a
-ordered-low a b h = (omega (arith, ints), h)
-
-pub ordered-high : (a b : ℤ) → a ≤ℤ b → Holds (Span a b) b
-ordered-high a b h = (h, omega (arith, ints))
-
-pub ordered-at : (i : Interval) (a b : ℤ) → i ≡ Span a b → a ≤ℤ b → IsOrdered i
-ordered-at i a b e h = subst (λ (i : Interval). IsOrdered i) (sym e) h
-
 pub hull_of-spans : (p q r s : ℤ) → span (int_min (int_min p q) (int_min r s)) (int_max (int_max p q) (int_max r s)) ≡ hull_of p q r s
 hull_of-spans p q r s =
-    let low = least-below p q r s in
-    let high = greatest-above p q r s in
-    span-ordered (int_min (int_min p q) (int_min r s)) (int_max (int_max p q) (int_max r s)) (through (int_min (int_min p q) (int_min r s)) p (int_max (int_max p q) (int_max r s)) low.0 high.0)
+    span-ordered (int_min (int_min p q) (int_min r s)) (int_max (int_max p q) (int_max r s)) (omega (arith, ints, clamps))
 
 -- a span within an interval, which may be out of order
 pub span-in : (a b c d : ℤ) → c ≤ℤ a → b ≤ℤ d → IsWithin (span a b) (Span c d)

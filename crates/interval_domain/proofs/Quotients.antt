@@ -5,10 +5,14 @@ use Rattle.std.proofs.Math.Nat.{mul-le-mul_left, div-mul-le_self}
 use Rattle.std.proofs.lemmas.Nat.{le-div}
 use Rattle.std.proofs.lemmas.Int.{ints, clamps, by_lt_z}
 use Rattle.interval_domain.specs.Interval.{Interval, Empty, Span, Holds, IsWithin, IsOrdered, span}
-use Rattle.interval_domain.specs.Operators.{kept, GrowsWith}
-use Rattle.interval_domain.specs.Arithmetic.{quotient_of, hull_of, quotients, below_zero, above_zero, div_raw, IsDivisor, HoldsQuotients}
+use Rattle.interval_domain.specs.Operators.{kept}
+use Rattle.interval_domain.specs.Arithmetic.{quotient_of, quotients, below_zero, above_zero, div_raw, IsDivisor}
+use Rattle.interval_domain.specs.Laws.{of_division}
 use Rattle.interval_domain.specs.Stored.{span-ordered, span-reversed}
-use Rattle.interval_domain.proofs.Between.{IsBetween, between-kept, between-held, hull_of-within, hull-within, hull-left, hull-right, holds-within, ordered-low, ordered-high}
+use Rattle.interval_domain.proofs.Between.{IsBetween, between-kept, between-held, hull_of-within, hull-left, hull-right}
+use Rattle.interval_domain.proofs.Bounds.{ordered-low, ordered-high}
+use Rattle.interval_domain.proofs.Strict.{Contains, IsLeastFor, GrowsTwo, least-grows-division}
+use Rattle.interval_domain.proofs.Within.{hull_least}
 
 -- ---- natural numbers
 
@@ -105,13 +109,19 @@ above-or-zero (pos zero) n h = absurd (n refl)
 above-or-zero (pos (suc k)) n h = omega (arith, ints)
 above-or-zero (negsuc k) n h = absurd (omega (arith, ints))
 
-pub held-div : (i j : Interval) → HoldsQuotients i j (div_raw i j)
-held-div Empty j x y h k n = absurd h
-held-div (Span a b) Empty x y h k n = absurd k
-held-div (Span a b) (Span c d) x y h k n =
+held-quotient : (i j : Interval) (x y : ℤ) → Holds i x → Holds j y → IsDivisor y → Holds (div_raw i j) (kept (quotient_of x y))
+held-quotient Empty j x y h k n = absurd h
+held-quotient (Span a b) Empty x y h k n = absurd k
+held-quotient (Span a b) (Span c d) x y h k n =
     by_lt_z y (pos 0)
-    (λ s. hull-left (quotients (Span a b) (below_zero (Span c d))) (quotients (Span a b) (above_zero (Span c d))) (kept (quotient_of x y)) (held-below a b c d x y s h k))
-    (λ s. hull-right (quotients (Span a b) (below_zero (Span c d))) (quotients (Span a b) (above_zero (Span c d))) (kept (quotient_of x y)) (held-above a b c d x y (above-or-zero y n s) h k))
+    (λ s. hull-left (quotients (Span a b) (below_zero (Span c d))) (quotients (Span a b) (above_zero (Span c d)))
+    (kept (quotient_of x y)) (held-below a b c d x y s h k))
+    (λ s. hull-right (quotients (Span a b) (below_zero (Span c d))) (quotients (Span a b) (above_zero (Span c d)))
+    (kept (quotient_of x y)) (held-above a b c d x y (above-or-zero y n s) h k))
+
+pub held-div : (i j : Interval) → Contains (of_division quotient_of i j) kept (div_raw i j)
+held-div i j z (x, y, h, k, n, e) =
+    subst (λ (v : ℤ). Holds (div_raw i j) (kept v)) e (held-quotient i j x y h k n)
 
 -- the part by divisors in order that are in j
 part-within : (a b c d : ℤ) (k : Interval) → a ≤ℤ b
@@ -128,20 +138,21 @@ not-zero : (c d y : ℤ) → (d ≤ℤ negsuc 0) ⊎ (pos 1 ≤ℤ c) → c ≤�
 not-zero c d y (inl s) h k = sign-divides c d y (inr (omega (arith, ints))) h k
 not-zero c d y (inr s) h k = sign-divides c d y (inl (omega (arith, ints))) h k
 
-pub least-div : (i j : Interval) → IsOrdered i → (k : Interval) → HoldsQuotients i j k → IsWithin (div_raw i j) k
-least-div Empty j p k all = tt
-least-div (Span a b) Empty p k all = tt
-least-div (Span a b) (Span c d) p k all =
-    hull-within (quotients (Span a b) (below_zero (Span c d))) (quotients (Span a b) (above_zero (Span c d))) k
+least-quotient : (i j : Interval) → IsOrdered i → (k : Interval)
+    → ((x y : ℤ) → Holds i x → Holds j y → IsDivisor y → Holds k (kept (quotient_of x y))) → IsWithin (div_raw i j) k
+least-quotient Empty j p k all = tt
+least-quotient (Span a b) Empty p k all = tt
+least-quotient (Span a b) (Span c d) p k all =
+    hull_least (quotients (Span a b) (below_zero (Span c d))) (quotients (Span a b) (above_zero (Span c d))) k
     (part-within a b c (int_min d (negsuc 0)) k p
-    (λ x y h l. all x y h (l.0, omega (arith, ints, clamps, l.1)) (not-zero c (int_min d (negsuc 0)) y (inl (omega (arith, ints, clamps))) l.0 l.1)))
+    (λ x y h l. all x y h (l.0, omega (arith, ints, clamps, l.1))
+    (not-zero c (int_min d (negsuc 0)) y (inl (omega (arith, ints, clamps))) l.0 l.1)))
     (part-within a b (int_max c (pos 1)) d k p
-    (λ x y h l. all x y h (omega (arith, ints, clamps, l.0), l.1) (not-zero (int_max c (pos 1)) d y (inr (omega (arith, ints, clamps))) l.0 l.1)))
+    (λ x y h l. all x y h (omega (arith, ints, clamps, l.0), l.1)
+    (not-zero (int_max c (pos 1)) d y (inr (omega (arith, ints, clamps))) l.0 l.1)))
 
-pub larger-div : (i j : Interval) → IsOrdered i → GrowsWith div_raw i j (div_raw i j)
-larger-div i j p k l h m =
-    least-div i j p (div_raw k l) (λ x y s t n. held-div k l x y (holds-within i k x h s) (holds-within j l y m t) n)
+pub least-div : (i j : Interval) → IsOrdered i → IsLeastFor (of_division quotient_of i j) kept (div_raw i j)
+least-div i j p k all = least-quotient i j p k (λ x y h l n. all (quotient_of x y) (x, y, h, l, n, refl))
 
-pub quotients-at : (i j : Interval) (a b c d : ℤ) → i ≡ Span a b → j ≡ Span c d
-    → quotients i j ≡ hull_of (kept (int_div a c)) (kept (int_div a d)) (kept (int_div b c)) (kept (int_div b d))
-quotients-at i j a b c d p q = λ n. quotients (p n) (q n)
+pub larger-div : (i j : Interval) → IsOrdered i → GrowsTwo div_raw i j
+larger-div i j p = least-grows-division kept quotient_of div_raw held-div i j (least-div i j p)

@@ -4,51 +4,21 @@ use Rattle.std.specs.Int.{int_max, int_min}
 use Rattle.std.specs.Ordering.{int_eq}
 use Rattle.std.proofs.lemmas.Int.{ints, clamps, by_lt_z}
 use Rattle.std.proofs.lemmas.Bool.{cases_Bool, or_cases}
-use Rattle.std.proofs.lemmas.Bool.Decides.{Decides-int_eq}
 use Rattle.interval_domain.specs.declared.relation.Compare.{Compare}
 use Rattle.interval_domain.specs.declared.relation.Compare.TheVariants.{Less, LessEqual, Greater, GreaterEqual, Equal, NotEqual}
 use Rattle.interval_domain.specs.Interval.{Interval, Empty, Span, Holds, IsWithin, IsOrdered}
 use Rattle.interval_domain.specs.Comparison.{test_of, opposite, Occurs, bounds_allow, may_hold, cut_bounds, cut_row, without, MeetsCutLaws}
 use Rattle.interval_domain.proofs.Laws.{span-holds, span-within}
-use Rattle.interval_domain.proofs.Between.{holds-within, ordered-low, ordered-high, span-in}
-use Rattle.interval_domain.proofs.Bounds.{through}
+use Rattle.interval_domain.proofs.Between.{holds-within, span-in}
+use Rattle.interval_domain.proofs.Bounds.{ordered-low, ordered-high}
+use Rattle.interval_domain.proofs.Orders.{lt-yes, lt-no, le-yes, le-no, lt-is, le-is, eq-is, eq-yes, eq-no, and-is, through}
+use Rattle.interval_domain.proofs.Strict.{GrowsTwo, grows-where}
 
--- ---- tests
-
-pub lt-yes : (a b : ℤ) → a <ℤ b → int_lt a b ≡ true
-lt-yes a b h = grind (arith, ints)
-
-pub le-yes : (a b : ℤ) → a ≤ℤ b → int_le a b ≡ true
-le-yes a b h = grind (arith, ints)
-
-lt-is : (a b : ℤ) → int_lt a b ≡ true → a <ℤ b
-lt-is a b h = by_lt_z a b (λ s. s) (λ s. let e : int_lt a b ≡ false = no a b s in let w : true ≡ false = sym h ∙ e in cc)
-  where
-    no : (a b : ℤ) → b ≤ℤ a → int_lt a b ≡ false
-    no a b s = grind (arith, ints)
-
-le-is : (a b : ℤ) → int_le a b ≡ true → a ≤ℤ b
-le-is a b h = by_lt_z b a (λ s. let e : int_le a b ≡ false = no a b s in let w : true ≡ false = sym h ∙ e in cc) (λ s. s)
-  where
-    no : (a b : ℤ) → b <ℤ a → int_le a b ≡ false
-    no a b s = grind (arith, ints)
-
-pub eq-is : (a b : ℤ) → int_eq a b ≡ true → a ≡ b
-eq-is a b h = (Decides-int_eq a b).0 h
-
-pub eq-yes : (a b : ℤ) → a ≡ b → int_eq a b ≡ true
-eq-yes a b h = (Decides-int_eq a b).1 h
-
-pub eq-no : (a b : ℤ) → (a ≡ b → ⊥) → int_eq a b ≡ false
-eq-no a b n = elim (cases_Bool (int_eq a b)) [ inl e ↦ absurd (n (eq-is a b e)) | inr e ↦ e ]
+-- ---- truth values
 
 not-is : (b : Bool) → not b ≡ true → b ≡ false
 not-is true h = cc
 not-is false h = refl
-
-and-is : (a b : Bool) → (a && b) ≡ true → (a ≡ true) × (b ≡ true)
-and-is true b h = (refl, h)
-and-is false b h = cc
 
 or-right : (a b : Bool) → b ≡ true → (a || b) ≡ true
 or-right true b h = refl
@@ -108,14 +78,8 @@ may_hold-occurs op (Span a b) (Span c d) o p t = occurring op a b c d o p t
 -- ---- the opposite comparison
 
 lt-opposite : (x y : ℤ) → int_le y x ≡ not (int_lt x y)
-lt-opposite x y = by_lt_z x y
-    (λ s. rw (lt-yes x y s) (no x y s)) (λ s. rw (le-yes y x s) (ap not (sym (none x y s))))
-  where
-    no : (x y : ℤ) → x <ℤ y → int_le y x ≡ false
-    no x y s = grind (arith, ints)
-
-    none : (x y : ℤ) → y ≤ℤ x → int_lt x y ≡ false
-    none x y s = grind (arith, ints)
+lt-opposite x y =
+    by_lt_z x y (λ s. rw (lt-yes x y s) (le-no y x s)) (λ s. rw (le-yes y x s) (ap not (sym (lt-no x y s))))
 
 le-opposite : (x y : ℤ) → int_lt y x ≡ not (int_le x y)
 le-opposite x y = back (int_lt y x) (int_le x y) (lt-opposite y x)
@@ -136,20 +100,13 @@ opposite-test GreaterEqual x y = le-opposite y x
 opposite-test Equal x y = refl
 opposite-test NotEqual x y = not-not (int_eq x y)
 
-not-false : (b : Bool) → not b ≡ true → b ≡ false
-not-false true h = cc
-not-false false h = refl
-
 turned : (op : Compare) (i j : Interval) → Occurs (opposite op) i j true → Occurs op i j false
-turned op i j (x, y, h, k, t) = (x, y, h, k, not-false (test_of op x y) (sym (opposite-test op x y) ∙ t))
+turned op i j (x, y, h, k, t) = (x, y, h, k, not-is (test_of op x y) (sym (opposite-test op x y) ∙ t))
 
 turned-back : (op : Compare) (i j : Interval) → Occurs op i j false → Occurs (opposite op) i j true
 turned-back op i j (x, y, h, k, t) = (x, y, h, k, opposite-test op x y ∙ ap not t)
 
 -- ---- the clauses of a comparison
-
-is-true : (b : Bool) → b ≡ true → IsTrue b
-is-true b e = e
 
 pub yes-occurs : (op : Compare) (i j : Interval) (f : Bool) → IsOrdered i × IsOrdered j → f ≡ may_hold op i j → IsTrue f ↔ Occurs op i j true
 yes-occurs op i j f o e = (λ t. may_hold-occurs op i j o.0 o.1 (sym e ∙ t), λ h. e ∙ may_hold-from op i j h)
@@ -287,12 +244,10 @@ bounds-larger Equal a b c d e f g n o h k l m =
     span-within (int_max a c) (int_min b d) (int_max e g) (int_min f n) (omega (arith, ints, clamps)) (omega (arith, ints, clamps))
 bounds-larger NotEqual a b c d e f g n o h k l m = different-larger a b c d e f g n o h k l m
 
-larger-cut : (op : Compare) (i j : Interval) → IsOrdered j → (k l : Interval) → IsWithin i k → IsWithin j l → IsWithin (cut_row op i j) (cut_row op k l)
-larger-cut op Empty j o k l h m = tt
-larger-cut op (Span a b) Empty o k l h m = tt
-larger-cut op (Span a b) (Span c d) o Empty l h m = absurd h
-larger-cut op (Span a b) (Span c d) o (Span e f) Empty h m = absurd m
-larger-cut op (Span a b) (Span c d) o (Span e f) (Span g n) h m = bounds-larger op a b c d e f g n o h.0 h.1 m.0 m.1
+larger-cut : (op : Compare) (i j : Interval) → IsOrdered j → GrowsTwo (cut_row op) i j
+larger-cut op i j o k l =
+    grows-where (cut_bounds op) (λ i k. Unit {0}) (λ j l. IsOrdered j)
+    (λ a b c d e f g n u. bounds-larger op a b c d e f g n) i j k l tt o
 
 pub laws-cut : (op : Compare) (i j out : Interval) → IsOrdered j → out ≡ cut_row op i j → MeetsCutLaws op i j out
 laws-cut op i j out o e =

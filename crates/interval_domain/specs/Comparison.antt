@@ -6,7 +6,7 @@ use Rattle.std.specs.Ordering.{int_eq}
 use Rattle.interval_domain.specs.declared.relation.Compare.{Compare}
 use Rattle.interval_domain.specs.declared.relation.Compare.TheVariants.{Less, LessEqual, Greater, GreaterEqual, Equal, NotEqual}
 use Rattle.interval_domain.specs.declared.relation.Flags.{Flags}
-use Rattle.interval_domain.specs.Interval.{Interval, Empty, Span, Holds, IsWithin, span}
+use Rattle.interval_domain.specs.Interval.{Interval, Empty, Span, Holds, IsWithin, span, strict}
 
 -- ---- on numbers
 
@@ -70,9 +70,7 @@ cut_bounds Equal a b c d = span (int_max a c) (int_min b d)
 cut_bounds NotEqual a b c d = if int_eq c d then without a b c else span a b
 
 abbrev pub cut_row : Compare → Interval → Interval → Interval
-cut_row op Empty j = Empty
-cut_row op (Span a b) Empty = Empty
-cut_row op (Span a b) (Span c d) = cut_bounds op a b c d
+cut_row op i j = strict (cut_bounds op) i j
 
 -- the laws: no number for which the comparison may be true is lost, nothing is added, larger sides give no smaller interval
 pub record MeetsCutLaws (op : Compare) (own other out : Interval) : Type 0 where

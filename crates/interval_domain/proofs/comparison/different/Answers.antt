@@ -4,7 +4,7 @@ use mir.Syntax.{w128}
 use Rattle.interval_domain.specs.Interval.{span}
 use Rattle.std.specs.Ordering.{int_eq}
 use Rattle.interval_domain.specs.Comparison.{without}
-use Rattle.interval_domain.proofs.Tests.{eq-no}
+use Rattle.interval_domain.proofs.Orders.{eq-no}
 use Rattle.interval_domain.proofs.comparison.different.Goals as goal
 
 pub returns-else-c-d : goal.returns-else-c-d
