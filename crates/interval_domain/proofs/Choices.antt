@@ -1,5 +1,5 @@
 -- The laws of MIN, MAX, LIMIT, SEL and conversions.
-use Rattle.std.proofs.Common.{◌≡◌, inl, inr, Bool, true, false, not, ◌||◌, ℤ, pos, ◌≤ℤ◌, int_le, arith, subst, sym, refl, ap, ◌∙◌}
+use Rattle.std.proofs.Common.{◌≡◌, inl, inr, Bool, true, false, not, ◌||◌, ℤ, pos, ◌≤ℤ◌, arith, subst, sym, refl, ap, ◌∙◌}
 use Rattle.std.specs.Int.{int_max, int_min}
 use Rattle.std.specs.Ordering.{int_eq}
 use Rattle.std.proofs.lemmas.Int.{ints, clamps}

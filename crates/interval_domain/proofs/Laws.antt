@@ -1,5 +1,5 @@
 -- The laws of spans and meets, of types, of sums and of differences.
-use Rattle.std.proofs.Common.{◌≡◌, ℤ, pos, ◌≤ℤ◌, ◌+ℤ◌, ◌-ℤ◌, neg_ℤ, ◌^◌, ◌&&◌, Bool, true, int_le, arith, subst, sym, refl}
+use Rattle.std.proofs.Common.{◌≡◌, ℤ, pos, ◌≤ℤ◌, ◌+ℤ◌, ◌-ℤ◌, neg_ℤ, ◌^◌, ◌&&◌, Bool, int_le, arith, subst, sym, refl}
 use Rattle.std.proofs.lemmas.Int.{ints, clamps, by_lt_z}
 use Rattle.std.specs.Int.{int_max, int_min}
 use Rattle.iec_tables.specs.declared.elem.Elem.{Elem}

@@ -10,7 +10,7 @@ use Rattle.std.proofs.lemmas.List.Elements.{Contains-append_left}
 use Rattle.interval_domain.specs.Interval.{Interval, Empty, Span, IsWithin, hull}
 use Rattle.interval_domain.specs.Grid.{first_or, last_or, floor_in, ceiling_in, rounded, type_bounds, number_of, all_numbers, IsOnGrid, IsRounder, IsLeastOnGrid, GivesHulls, IsGrid}
 use Rattle.interval_domain.proofs.Rounding.{rounded-grows}
-use Rattle.interval_domain.proofs.Orders.{le-yes, le-no, itself}
+use Rattle.interval_domain.proofs.Orders.{le-yes, le-no}
 use Rattle.interval_domain.proofs.Searching.{rises}
 
 -- ---- members of rising lists

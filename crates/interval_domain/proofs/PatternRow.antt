@@ -1,5 +1,5 @@
 -- The row of all operators on patterns: exact where both operands are single, else what another function gives for their bounds.
-use Rattle.std.proofs.Common.{◌≡◌, inl, inr, Bool, true, false, ◌&&◌, ℤ, ◌≤ℤ◌, arith, sym, refl, subst, ◌∙◌}
+use Rattle.std.proofs.Common.{◌≡◌, inl, inr, Bool, true, false, ◌&&◌, ℤ, ◌≤ℤ◌, arith, sym, ◌∙◌}
 use Rattle.std.specs.Ordering.{int_eq}
 use Rattle.std.proofs.lemmas.Bool.{cases_Bool}
 use Rattle.std.proofs.lemmas.Int.{ints}
@@ -7,7 +7,7 @@ use Rattle.interval_domain.specs.Interval.{Interval, Empty, Span, Holds, IsWithi
 use Rattle.interval_domain.specs.Bits.{exact_or, pattern_at, pattern_row}
 use Rattle.interval_domain.specs.Laws.{of_two, same}
 use Rattle.interval_domain.proofs.Bounds.{ordered-low, ordered-high}
-use Rattle.interval_domain.proofs.Orders.{eq-is, eq-yes, and-is, through, itself}
+use Rattle.interval_domain.proofs.Orders.{eq-is, eq-yes, and-is, through}
 use Rattle.interval_domain.proofs.Strict.{Contains, held-where, grows-where}
 
 -- What the other function gives for bounds holds each result of numbers between them, and grows with them. Left and right operands are of the

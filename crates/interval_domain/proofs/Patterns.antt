@@ -1,5 +1,5 @@
 -- Bit patterns between others, and what AND, OR, XOR and NOT make of them.
-use Rattle.std.proofs.Common.{◌≡◌, ◌⊎◌, inl, inr, refl, ap, ◌∙◌, int_le, ℕ, zero, suc, ◌+◌, ◌*◌, ◌/◌, ◌%◌, ◌-◌, ◌^◌, ◌≤◌, ◌<◌, nat_eq, Bool, true, false, ◌&&◌, ℤ, pos, negsuc, ◌≤ℤ◌, ◌-ℤ◌, unsigned_abs, bit_and, bit_or, bit_xor, FitsSigned, to_z, arith, subst, sym}
+use Rattle.std.proofs.Common.{◌≡◌, inl, inr, refl, ap, ◌∙◌, int_le, ℕ, zero, suc, ◌+◌, ◌*◌, ◌/◌, ◌%◌, ◌-◌, ◌^◌, ◌≤◌, ◌<◌, Bool, ℤ, pos, negsuc, ◌≤ℤ◌, ◌-ℤ◌, unsigned_abs, bit_and, bit_or, bit_xor, FitsSigned, to_z, arith, subst, sym}
 use Rattle.std.specs.Int.{int_max, int_min}
 use Rattle.std.specs.Int.Count.{count_leading_zeros, leading_unique}
 use Rattle.std.proofs.Math.Nat.{pow-le-pow_right, pow-suc}

@@ -1,5 +1,5 @@
 -- Remainders of numbers between others, and the laws of MOD.
-use Rattle.std.proofs.Common.{◌≡◌, refl, ℕ, zero, suc, max, ◌%◌, ◌≤◌, ◌<◌, nat_eq, true, false, ℤ, pos, negsuc, ◌≤ℤ◌, ◌<ℤ◌, ◌+ℤ◌, ◌-ℤ◌, ◌*ℤ◌, int_lt, int_div, unsigned_abs, arith, subst, sym}
+use Rattle.std.proofs.Common.{◌≡◌, refl, ℕ, zero, suc, max, ◌%◌, ◌≤◌, ◌<◌, ℤ, pos, negsuc, ◌≤ℤ◌, ◌<ℤ◌, ◌+ℤ◌, ◌-ℤ◌, ◌*ℤ◌, int_div, unsigned_abs, arith, subst, sym}
 use Rattle.std.specs.Int.RustNames.{int_rem}
 use Rattle.std.proofs.Math.Nat.{mod-lt, mod-le}
 use Rattle.std.proofs.lemmas.Int.{ints, clamps, by_lt_z, quot-rem}

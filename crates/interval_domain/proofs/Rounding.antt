@@ -1,5 +1,5 @@
 -- The search in a rising list, and the laws of rounding.
-use Rattle.std.proofs.Common.{◌≡◌, true, false, List, [], ◌∷◌, ℤ, ◌≤ℤ◌, ◌<ℤ◌, int_le, arith, sym, subst}
+use Rattle.std.proofs.Common.{◌≡◌, List, [], ◌∷◌, ℤ, ◌≤ℤ◌, int_le, arith, sym, subst}
 use Rattle.std.specs.List.{filter}
 use Rattle.std.proofs.lemmas.Int.{ints, by_lt_z}
 use Rattle.interval_domain.specs.Interval.{Interval, Empty, Span, IsWithin, span}

@@ -1,6 +1,6 @@
 -- The lists of ranks and numbers from which the grid is made.
-use Rattle.std.proofs.Common.{◌≡◌, ℕ, ◌+◌, ◌<◌, ◌≤◌, nat_eq, take, get_or, length, List, [], ◌∷◌, ◌++◌, map, ℤ, pos, negsuc, Bool, true, arith, ap, ◌∙◌, sym, refl, subst, append_assoc}
-use Rattle.std.specs.List.{flat_map, dedup}
+use Rattle.std.proofs.Common.{◌≡◌, ℕ, ◌+◌, ◌<◌, nat_eq, take, get_or, length, List, [], ◌∷◌, ◌++◌, map, ℤ, pos, negsuc, Bool, true, false, not, cond, arith, ap, ◌∙◌, sym, refl, subst, append_assoc}
+use Rattle.std.specs.List.{flat_map, dedup, list_any}
 use Rattle.std.specs.List.Sorted.{IsPermutation, IsSorted}
 use Rattle.std.specs.declared.cmp.Ordering.{Ordering}
 use Rattle.std.specs.Ordering.{eq_by_cmp, int_cmp, int_eq, nat_cmp}
@@ -12,7 +12,7 @@ use Rattle.std.proofs.lemmas.Grind.{common_steps}
 use Rattle.std.proofs.lemmas.List.Kept.{IsStrictlySortedBy-dedup, Contains-dedup, Contains-from_dedup}
 use Rattle.std.proofs.lemmas.List.Sorted.{Contains-permutation, IsPermutation-sym}
 use Rattle.interval_domain.specs.Operators.{kept, sum_of, difference_of}
-use Rattle.interval_domain.specs.Grid.{number_of, ranks_of, candidates, neighbours, IsSetOf}
+use Rattle.interval_domain.specs.Grid.{rank_of, ranks_of, is_bound_of, all_types, candidates, neighbours, IsSetOf}
 
 -- what a sort and a `dedup` leave
 pub dedup-set : {X : Type 0} {R : X → X → Ordering} (o : IsTotalOrder R) {E : X → X → Bool} (e : IsEquivalence E)
@@ -66,10 +66,21 @@ ranks-set xs made ys zs e p s f =
     subst (λ (l : List ℕ). IsSetOf nat_cmp xs l) (sym f)
     (dedup-set nat_cmp_total nat_eq_equiv (λ x y. sym (unsigned_tied x y)) eqb-true xs ys (subst (λ (l : List ℕ). IsPermutation l ys) e p) s)
 
-take_whole : (xs : List ℕ) (i : ℕ) → length xs ≤ i → take i xs ≡ xs
-take_whole xs i h = grind (arith, common_steps)
+-- ---- one rank, or none of a bound of a type
 
--- all numbers of the ranks are pushed where the loop ends
-pub pushed-all : (xs ys : List ℤ) (ranks items : List ℕ) (i : ℕ)
-    → ys ≡ xs ++ map number_of (take i items) → length items ≤ i → items ≡ ranks → ys ≡ xs ++ map number_of ranks
-pushed-all xs ys ranks items i e h f = e ∙ ap (λ l. xs ++ map number_of l) (take_whole items i h ∙ f)
+alone-ranks : (b : Bool) (z : ℤ) → b ≡ true → map rank_of (cond b (z ∷ []) []) ≡ rank_of z ∷ []
+alone-ranks true z e = refl
+alone-ranks false z e = cc
+
+no-ranks : (b : Bool) (z : ℤ) → b ≡ false → map rank_of (cond b (z ∷ []) []) ≡ []
+no-ranks true z e = cc
+no-ranks false z e = refl
+
+pub rank-alone : (z : ℤ) (b : Bool) → b ≡ list_any (is_bound_of z) all_types → b ≡ false → ranks_of (z ∷ []) ≡ rank_of z ∷ []
+rank-alone z b e f = alone-ranks (not (list_any (is_bound_of z) all_types)) z (ap not (sym e ∙ f))
+
+pub no-rank : (z : ℤ) (b : Bool) → b ≡ list_any (is_bound_of z) all_types → b ≡ true → ranks_of (z ∷ []) ≡ []
+no-rank z b e f = no-ranks (not (list_any (is_bound_of z) all_types)) z (ap not (sym e ∙ f))
+
+pub none-pushed : (xs ys : List ℕ) → ys ≡ [] → xs ≡ xs ++ ys
+none-pushed xs ys e = grind (arith, common_steps)

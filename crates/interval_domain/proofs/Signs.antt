@@ -1,5 +1,5 @@
 -- The laws of negation and absolute value.
-use Rattle.std.proofs.Common.{◌≡◌, ℤ, pos, negsuc, ◌≤ℤ◌, ◌-ℤ◌, neg_ℤ, ◌-◌, ◌^◌, arith, refl, sym, ◌∙◌, subst}
+use Rattle.std.proofs.Common.{◌≡◌, ℤ, pos, negsuc, ◌≤ℤ◌, ◌-ℤ◌, neg_ℤ, ◌-◌, ◌^◌, arith, refl, ◌∙◌}
 use Rattle.std.specs.Int.{int_max}
 use Rattle.std.proofs.lemmas.Int.{ints, clamps, by_lt_z}
 use Rattle.interval_domain.specs.Interval.{Interval, Span, Holds, IsOrdered}

@@ -1,8 +1,7 @@
 -- What holds of an operator on intervals, from what holds of the results that it gives for bounds: once for all operators that are empty
 -- where an operand is.
-use Rattle.std.proofs.Common.{◌≡◌, ℤ, ◌≤ℤ◌, refl, subst}
+use Rattle.std.proofs.Common.{ℤ, ◌≤ℤ◌, subst}
 use Rattle.interval_domain.specs.Interval.{Interval, Empty, Span, Holds, IsWithin, IsOrdered, strict_one, strict}
-use Rattle.interval_domain.specs.Arithmetic.{IsDivisor}
 use Rattle.interval_domain.specs.Laws.{of_one, of_two, of_division}
 use Rattle.interval_domain.proofs.Between.{holds-within}
 

@@ -1,11 +1,11 @@
 -- AND, OR and XOR on BOOL: the values that occur, by computing the rows of all pairs of operands.
-use Rattle.std.proofs.Common.{◌≡◌, ◌⊎◌, inl, inr, refl, ap, ◌∙◌, zero, suc, Bool, true, false, ◌&&◌, ◌||◌, ◌^◌, ◌-◌, ℕ, ℤ, pos, negsuc, ◌≤ℤ◌, arith, subst, sym}
+use Rattle.std.proofs.Common.{◌≡◌, ◌⊎◌, inl, inr, refl, zero, suc, Bool, true, false, ◌&&◌, ◌||◌, ◌^◌, ◌-◌, ℕ, ℤ, pos, negsuc, ◌≤ℤ◌, arith, subst, sym}
 use Rattle.std.specs.Ordering.{int_eq}
 use Rattle.std.proofs.lemmas.Int.{ints}
 use Rattle.iec_tables.specs.declared.elem.Elem.{Elem}
 use Rattle.iec_tables.specs.Types.{width_of}
-use Rattle.interval_domain.specs.Interval.{Interval, Empty, Span, Holds, holds, IsWithin, IsOrdered, strict}
-use Rattle.interval_domain.specs.Bits.{bits_range, patterns_in, digits, and_of, or_of, xor_of, and_other, or_other, xor_other, pattern_at, pattern_row}
+use Rattle.interval_domain.specs.Interval.{Interval, Empty, Span, Holds, holds, IsWithin, IsOrdered}
+use Rattle.interval_domain.specs.Bits.{bits_range, patterns_in, digits, and_of, or_of, xor_of, and_other, or_other, xor_other, pattern_row}
 use Rattle.interval_domain.specs.Laws.{of_two, same}
 use Rattle.interval_domain.proofs.Between.{meet-right, meet-ordered}
 use Rattle.interval_domain.proofs.Bounds.{both-ends}

@@ -2,7 +2,6 @@ use Rattle.std.proofs.Common.{rules, ◌∙◌, FitsSigned}
 use Rattle.std.proofs.lemmas.Int.{to_z-of_z}
 use mir.Syntax.{w128}
 use Rattle.iec_tables.specs.Types.{width_of}
-use Rattle.interval_domain.specs.Interval.{Interval}
 use Rattle.interval_domain.specs.Bits.{patterns_in, mirrored, not_of, cut_not_row}
 use Rattle.interval_domain.specs.Laws.{of_one}
 use Rattle.interval_domain.proofs.Patterns.{cut-held-not, cut-larger-not}
