@@ -23,7 +23,8 @@ pub held-min : (i j : Interval) → Contains (of_two least_of i j) same (min_row
 held-min = held-two same least_of min_at (λ a b c d x y h k l m. (min-ordered a x c y h l, min-ordered x b y d k m))
 
 pub held-max : (i j : Interval) → Contains (of_two greatest_of i j) same (max_row i j)
-held-max = held-two same greatest_of max_at (λ a b c d x y h k l m. (max-ordered a x c y h l, max-ordered x b y d k m))
+held-max =
+    held-two same greatest_of max_at (λ a b c d x y h k l m. (max-ordered a x c y h l, max-ordered x b y d k m))
 
 pub larger-min : (i j : Interval) → GrowsTwo min_row i j
 larger-min = rises-two min_at (λ a b c d e f g n h k l m. (min-ordered e a g c h l, min-ordered b f d n k m))
@@ -35,7 +36,8 @@ pub held-limit : (mn i mx : Interval) → Contains (of_three limited mn i mx) sa
 held-limit mn i mx v (x, y, z, h, k, l, e) =
     held-min (max_row i mn) mx v (greatest_of y x, z, held-max i mn (greatest_of y x) (y, x, k, h, refl), l, e)
 
-pub larger-limit : (mn i mx a b c : Interval) → IsWithin mn a → IsWithin i b → IsWithin mx c → IsWithin (limit_row mn i mx) (limit_row a b c)
+pub larger-limit : (mn i mx a b c : Interval) → IsWithin mn a → IsWithin i b → IsWithin mx c
+    → IsWithin (limit_row mn i mx) (limit_row a b c)
 larger-limit mn i mx a b c h k l = larger-min (max_row i mn) mx (max_row b a) c (larger-max i mn b a k h) l
 
 -- ---- SEL
@@ -55,17 +57,20 @@ zero-alone (Span a b) z h e = grind (arith, ints)
 given-holds : (test : Bool) (i : Interval) (z : ℤ) → test ≡ true → Holds i z → Holds (given test i) z
 given-holds test i z e h = rw e h
 
-none-empty : (g i j : Interval) (x y z : ℤ) → Holds g x → Holds i y → Holds j z → not (is_empty g || is_empty i || is_empty j) ≡ true
+none-empty : (g i j : Interval) (x y z : ℤ) → Holds g x → Holds i y → Holds j z
+    → not (is_empty g || is_empty i || is_empty j) ≡ true
 none-empty g i j x y z h k l = rw (held-not-empty g x h, held-not-empty i y k, held-not-empty j z l) refl
 
-held-chosen : (g i j : Interval) (x y z : ℤ) → Holds g x → Holds i y → Holds j z → Holds (sel_row g i j) (chosen x y z)
+held-chosen : (g i j : Interval) (x y z : ℤ) → Holds g x → Holds i y → Holds j z
+    → Holds (sel_row g i j) (chosen x y z)
 held-chosen g i j x y z h k l =
     given-holds _ _ _ (none-empty g i j x y z h k l)
     (elim (cases_Bool (int_eq x (pos 0))) [
       | inl e ↦
           let zero : x ≡ pos 0 = eq-is x (pos 0) e in
           let there : holds g (pos 0) ≡ true = holds-true g (pos 0) (subst (λ (v : ℤ). Holds g v) zero h) in
-          rw e (hull-left (given (holds g (pos 0)) i) (given (not (is_within g (Span (pos 0) (pos 0)))) j) y (given-holds (holds g (pos 0)) i y there k))
+          rw e (hull-left (given (holds g (pos 0)) i) (given (not (is_within g (Span (pos 0) (pos 0)))) j) y
+          (given-holds (holds g (pos 0)) i y there k))
       | inr e ↦
           rw e (hull-right (given (holds g (pos 0)) i) (given (not (is_within g (Span (pos 0) (pos 0)))) j) z
           (elim (cases_Bool (is_within g (Span (pos 0) (pos 0)))) [
@@ -104,22 +109,26 @@ zero-larger Empty k h e = cc
 zero-larger (Span a b) Empty h e = absurd h
 zero-larger (Span a b) (Span c d) h e = grind (arith, ints)
 
-other-larger : (g k : Interval) → IsWithin g k → not (is_within g (Span (pos 0) (pos 0))) ≡ true → not (is_within k (Span (pos 0) (pos 0))) ≡ true
+other-larger : (g k : Interval) → IsWithin g k → not (is_within g (Span (pos 0) (pos 0))) ≡ true
+    → not (is_within k (Span (pos 0) (pos 0))) ≡ true
 other-larger Empty k h e = cc
 other-larger (Span a b) Empty h e = absurd h
 other-larger (Span a b) (Span c d) h e = grind (arith, ints)
 
 hull-larger : (i j k l : Interval) → IsWithin i k → IsWithin j l → IsWithin (hull i j) (hull k l)
 hull-larger i j k l h m =
-    hull_least i j (hull k l) (within_trans i k (hull k l) h (within_hull_left k l)) (within_trans j l (hull k l) m (within_hull_right k l))
+    hull_least i j (hull k l) (within_trans i k (hull k l) h (within_hull_left k l))
+    (within_trans j l (hull k l) m (within_hull_right k l))
 
-pub larger-sel : (g i j k l m : Interval) → IsWithin g k → IsWithin i l → IsWithin j m → IsWithin (sel_row g i j) (sel_row k l m)
+pub larger-sel : (g i j k l m : Interval) → IsWithin g k → IsWithin i l → IsWithin j m
+    → IsWithin (sel_row g i j) (sel_row k l m)
 larger-sel g i j k l m p q r =
     given-larger _ _ _ _ (all-larger g i j k l m p q r)
     (hull-larger (given (holds g (pos 0)) i) (given (not (is_within g (Span (pos 0) (pos 0)))) j)
     (given (holds k (pos 0)) l) (given (not (is_within k (Span (pos 0) (pos 0)))) m)
     (given-larger (holds g (pos 0)) (holds k (pos 0)) i l (zero-larger g k p) q)
-    (given-larger (not (is_within g (Span (pos 0) (pos 0)))) (not (is_within k (Span (pos 0) (pos 0)))) j m (other-larger g k p) r))
+    (given-larger (not (is_within g (Span (pos 0) (pos 0)))) (not (is_within k (Span (pos 0) (pos 0)))) j m
+    (other-larger g k p) r))
 
 -- ---- conversions keep the number
 
@@ -128,4 +137,5 @@ held-whole i z (x, h, e) = subst (λ (v : ℤ). Holds i v) e h
 
 pub least-whole : (i : Interval) → IsOrdered i → IsLeastFor (of_one same i) same i
 least-whole Empty o k all = tt
-least-whole (Span a b) o k all = both-ends a b k (all a (a, ordered-low a b o, refl)) (all b (b, ordered-high a b o, refl))
+least-whole (Span a b) o k all =
+    both-ends a b k (all a (a, ordered-low a b o, refl)) (all b (b, ordered-high a b o, refl))

@@ -21,7 +21,8 @@ module _ (op : ℤ → ℤ → ℤ) (other : (a b c d : ℤ) → Interval) (t : 
       → IsSound (of_two op (patterns_in (width_of t) i) (patterns_in (width_of t) j)) same any raw out
   bits-sound is =
       sound-plain _ _ raw out e f
-      (pattern-held IsPattern IsPattern op other is (patterns_in (width_of t) i) (patterns_in (width_of t) j) (cut-patterns t i) (cut-patterns t j))
+      (pattern-held IsPattern IsPattern op other is (patterns_in (width_of t) i) (patterns_in (width_of t) j)
+      (cut-patterns t i) (cut-patterns t j))
 
   pub bits-best : table op other ≡ true → width_of t ≡ 1
       → IsBest (of_two op (patterns_in (width_of t) i) (patterns_in (width_of t) j)) same raw
@@ -31,8 +32,10 @@ module _ (op : ℤ → ℤ → ℤ) (other : (a b c d : ℤ) → Interval) (t : 
       → IsMonotone (with_two (cut_row (pattern_row op other) t) (cut_row (pattern_row op other) t) i j) raw out
   bits-monotone is =
       grows-two (cut_row (pattern_row op other) t) (λ i. i) whole-grows i j raw out e f
-      (λ k l h m. pattern-grows IsPattern IsPattern op other is (patterns_in (width_of t) i) (patterns_in (width_of t) j)
-      (patterns_in (width_of t) k) (patterns_in (width_of t) l) (meet-ordered i (bits_range t)) (meet-ordered j (bits_range t))
+      (λ k l h m. pattern-grows IsPattern IsPattern op other is (patterns_in (width_of t) i)
+      (patterns_in (width_of t) j)
+      (patterns_in (width_of t) k) (patterns_in (width_of t) l) (meet-ordered i (bits_range t))
+      (meet-ordered j (bits_range t))
       (cut-patterns t i) (cut-patterns t j) (meet-within i k (bits_range t) h) (meet-within j l (bits_range t) m))
 
 -- ---- the first operand is cut
@@ -40,15 +43,19 @@ module _ (op : ℤ → ℤ → ℤ) (other : (a b c d : ℤ) → Interval) (t : 
 first-patterns : (w : ℕ) (i : Interval) → AreAll (Holds (patterns w)) (patterns_in w i)
 first-patterns w i x h = holds-within (patterns_in w i) (patterns w) x (meet-right i (patterns w)) h
 
-module _ (op : ℕ → ℤ → ℤ → ℤ) (w : ℕ) (is : IsPatternOperator (Holds (patterns w)) any (op w) (any_pattern w)) (i j raw out : Interval)
+module _ (op : ℕ → ℤ → ℤ → ℤ) (w : ℕ) (is : IsPatternOperator (Holds (patterns w)) any (op w) (any_pattern w))
+    (i j raw out : Interval)
     (e : raw ≡ cut_first (moved_row op) w i j) (f : out ≡ cut_first (moved_row op) w i j) where
   pub moved-sound : IsSound (of_two (op w) (patterns_in w i) j) same any raw out
   moved-sound =
       sound-plain _ _ raw out e f
-      (pattern-held (Holds (patterns w)) any (op w) (any_pattern w) is (patterns_in w i) j (first-patterns w i) (λ y h. tt))
+      (pattern-held (Holds (patterns w)) any (op w) (any_pattern w) is (patterns_in w i) j (first-patterns w i)
+      (λ y h. tt))
 
-  pub moved-monotone : IsOrdered j → IsMonotone (with_two (cut_first (moved_row op) w) (cut_first (moved_row op) w) i j) raw out
+  pub moved-monotone : IsOrdered j
+      → IsMonotone (with_two (cut_first (moved_row op) w) (cut_first (moved_row op) w) i j) raw out
   moved-monotone o =
       grows-two (cut_first (moved_row op) w) (λ i. i) whole-grows i j raw out e f
-      (λ k l h m. pattern-grows (Holds (patterns w)) any (op w) (any_pattern w) is (patterns_in w i) j (patterns_in w k) l
+      (λ k l h m. pattern-grows (Holds (patterns w)) any (op w) (any_pattern w) is (patterns_in w i) j
+      (patterns_in w k) l
       (meet-ordered i (patterns w)) o (first-patterns w i) (λ y h. tt) (meet-within i k (patterns w) h) m)

@@ -34,7 +34,8 @@ meet-holds (Span a b) (Span c d) z h k =
 
 meet_at-within : (e f a b c d : ℤ) → c ≤ℤ a → b ≤ℤ d → IsWithin (meet_at a b e f) (meet_at c d e f)
 meet_at-within e f a b c d h k =
-    span-within (int_max a e) (int_min b f) (int_max c e) (int_min d f) (omega (arith, ints, clamps)) (omega (arith, ints, clamps))
+    span-within (int_max a e) (int_min b f) (int_max c e) (int_min d f) (omega (arith, ints, clamps))
+    (omega (arith, ints, clamps))
 
 pub meet-within : (i j k : Interval) → IsWithin i j → IsWithin (meet i k) (meet j k)
 meet-within Empty j k h = tt
@@ -98,10 +99,12 @@ least-add = least-two (λ i j. of_two sum_of i j) kept add_at at
         both-ends _ _ k (all (a +ℤ c) (a, c, ordered-low a b p, ordered-low c d q, refl))
         (all (b +ℤ d) (b, d, ordered-high a b p, ordered-high c d q, refl))
 
-pub least-sub : (i j : Interval) → IsOrdered i → IsOrdered j → IsLeastFor (of_two difference_of i j) kept (sub_raw i j)
+pub least-sub : (i j : Interval) → IsOrdered i → IsOrdered j
+    → IsLeastFor (of_two difference_of i j) kept (sub_raw i j)
 least-sub = least-two (λ i j. of_two difference_of i j) kept sub_at at
   where
-    at : (a b c d : ℤ) → a ≤ℤ b → c ≤ℤ d → IsLeastFor (of_two difference_of (Span a b) (Span c d)) kept (sub_at a b c d)
+    at : (a b c d : ℤ) → a ≤ℤ b → c ≤ℤ d
+        → IsLeastFor (of_two difference_of (Span a b) (Span c d)) kept (sub_at a b c d)
     at a b c d p q k all =
         both-ends _ _ k (all (a -ℤ d) (a, d, ordered-low a b p, ordered-high c d q, refl))
         (all (b -ℤ c) (b, c, ordered-high a b p, ordered-low c d q, refl))

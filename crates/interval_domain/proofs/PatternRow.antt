@@ -1,4 +1,5 @@
--- The row of all operators on patterns: exact where both operands are single, else what another function gives for their bounds.
+-- The row of all operators on patterns: exact where both operands are single, else what another function gives
+-- for their bounds.
 use Rattle.std.proofs.Common.{◌≡◌, inl, inr, Bool, true, false, ◌&&◌, ℤ, ◌≤ℤ◌, arith, sym, ◌∙◌}
 use Rattle.std.specs.Ordering.{int_eq}
 use Rattle.std.proofs.lemmas.Bool.{cases_Bool}
@@ -10,11 +11,13 @@ use Rattle.interval_domain.proofs.Bounds.{ordered-low, ordered-high}
 use Rattle.interval_domain.proofs.Orders.{eq-is, eq-yes, and-is, through}
 use Rattle.interval_domain.proofs.Strict.{Contains, held-where, grows-where}
 
--- What the other function gives for bounds holds each result of numbers between them, and grows with them. Left and right operands are of the
+-- What the other function gives for bounds holds each result of numbers between them, and grows with them. Left
+-- and right operands are of the
 -- numbers of P and Q.
 pub record IsPatternOperator (P Q : ℤ → Type 0) (op : ℤ → ℤ → ℤ) (other : (a b c d : ℤ) → Interval) : Type 0 where
   pub held : (a b c d x y : ℤ) → P x → Q y → a ≤ℤ x → x ≤ℤ b → c ≤ℤ y → y ≤ℤ d → Holds (other a b c d) (op x y)
-  pub grows : (a b c d e f g n : ℤ) → P b → Q d → e ≤ℤ a → b ≤ℤ f → g ≤ℤ c → d ≤ℤ n → IsWithin (other a b c d) (other e f g n)
+  pub grows : (a b c d e f g n : ℤ) → P b → Q d → e ≤ℤ a → b ≤ℤ f → g ≤ℤ c → d ≤ℤ n
+      → IsWithin (other a b c d) (other e f g n)
 
 -- each number that the interval holds is one of P
 abbrev pub AreAll : (ℤ → Type 0) → Interval → Type 0
@@ -64,14 +67,16 @@ exact_or-larger op a b c d e f g n small large o p h k l m held within =
             | inl v ↦
                 let both = and-is (int_eq e f) (int_eq g n) v in
                 let wrong : true ≡ false =
-                sym (both-true (int_eq a b) (int_eq c d) (still-single a b e f o h k both.0) (still-single c d g n p l m both.1)) ∙ u in cc
+                sym (both-true (int_eq a b) (int_eq c d) (still-single a b e f o h k both.0)
+                (still-single c d g n p l m both.1)) ∙ u in cc
             | inr v ↦ rw v within
           ])
     ]
 
 -- ---- the laws of the row
 
-pub pattern-held : (P Q : ℤ → Type 0) (op : ℤ → ℤ → ℤ) (other : (a b c d : ℤ) → Interval) → IsPatternOperator P Q op other
+pub pattern-held : (P Q : ℤ → Type 0) (op : ℤ → ℤ → ℤ) (other : (a b c d : ℤ) → Interval)
+    → IsPatternOperator P Q op other
     → (i j : Interval) → AreAll P i → AreAll Q j → Contains (of_two op i j) same (pattern_row op other i j)
 pattern-held P Q op other is = held-where same op (pattern_at op other) (AreAll P) (AreAll Q) at
   where
@@ -84,7 +89,8 @@ pattern-held P Q op other is = held-where same op (pattern_at op other) (AreAll 
 abbrev AreOrdered : (ℤ → Type 0) → Interval → Interval → Type 0
 AreOrdered P i k = IsOrdered i × AreAll P i
 
-pub pattern-grows : (P Q : ℤ → Type 0) (op : ℤ → ℤ → ℤ) (other : (a b c d : ℤ) → Interval) → IsPatternOperator P Q op other
+pub pattern-grows : (P Q : ℤ → Type 0) (op : ℤ → ℤ → ℤ) (other : (a b c d : ℤ) → Interval)
+    → IsPatternOperator P Q op other
     → (i j k l : Interval) → IsOrdered i → IsOrdered j → AreAll P i → AreAll Q j
     → IsWithin i k → IsWithin j l → IsWithin (pattern_row op other i j) (pattern_row op other k l)
 pattern-grows P Q op other is i j k l o p v w =
@@ -94,5 +100,6 @@ pattern-grows P Q op other is i j k l o p v w =
         → e ≤ℤ a → b ≤ℤ f → g ≤ℤ c → d ≤ℤ n → IsWithin (pattern_at op other a b c d) (pattern_at op other e f g n)
     at a b c d e f g n (o, v) (p, w) h k l m =
         exact_or-larger op a b c d e f g n (other a b c d) (other e f g n) o p h k l m
-        (is.held e f g n a c (v a (ordered-low a b o)) (w c (ordered-low c d p)) h (through a b f o k) l (through c d n p m))
+        (is.held e f g n a c (v a (ordered-low a b o)) (w c (ordered-low c d p)) h (through a b f o k) l
+        (through c d n p m))
         (is.grows a b c d e f g n (v b (ordered-high a b o)) (w d (ordered-high c d p)) h k l m)

@@ -22,7 +22,9 @@ use Rattle.interval_domain.proofs.Strict.{Contains, GrowsOne, held-one, rises-on
 -- ---- binary digits
 
 halved : (n : ℕ) → (n / 2 * 2 ≤ n) × (n ≤ n / 2 * 2 + 1)
-halved n = let e : n / 2 * 2 + n % 2 ≡ n = div-add-mod' n 2 in let r : n % 2 < 2 = mod_below n 2 (omega arith) in (omega arith, omega arith)
+halved n =
+    let e : n / 2 * 2 + n % 2 ≡ n = div-add-mod' n 2 in let r : n % 2 < 2 = mod_below n 2 (omega arith) in
+    (omega arith, omega arith)
 
 half-up : (n m : ℕ) → n ≤ m → n / 2 ≤ m / 2
 half-up n m h = let a = halved n in let b = halved m in omega arith
@@ -42,7 +44,13 @@ digits-rise zero n m h = omega arith
 digits-rise (suc k) zero m h = omega (arith, digits-zero (suc k))
 digits-rise (suc k) (suc n) zero h = absurd (omega arith)
 digits-rise (suc k) (suc n) (suc m) h =
-    omega (arith, digits-more k (suc n) (omega arith), digits-more k (suc m) (omega arith), digits-rise k (suc n / 2) (suc m / 2) (half-up (suc n) (suc m) h))
+    omega (
+      arith,
+      digits-more k (suc n) (omega arith),
+      digits-more k (suc m) (omega arith),
+      digits-rise k (suc n / 2)
+          (suc m / 2) (half-up (suc n) (suc m) h),
+    )
 
 -- the power of the digits is the least above the number
 even-above : (p h n : ℕ) → h * 2 ≤ n → n ≤ h * 2 + 1 → h < p → n < 2 * p
@@ -90,7 +98,8 @@ leading-digits n h =
     let bounds = digits-bounds 128 n wide in
     let le : digits 128 n ≤ 128 = digits-le 128 n in
     let whole : (128 - digits 128 n) + digits 128 n ≡ 128 = omega arith in
-    let e : 128 - digits 128 n ≡ count_leading_zeros 128 n = leading_unique 128 n (128 - digits 128 n) (digits 128 n) whole bounds.0 bounds.1 in
+    let e : 128 - digits 128 n ≡ count_leading_zeros 128 n = leading_unique 128 n (128 - digits 128 n)
+    (digits 128 n) whole bounds.0 bounds.1 in
     (omega arith, few-digits (digits 128 n) n h bounds.1)
 
 -- a natural number of 127 bits
@@ -114,10 +123,14 @@ shifted z h =
     ap (λ k. 1 * 2 ^ k % 340282366920938463463374607431768211456) e.0 ∙ one_shl (digits 128 (unsigned_abs z)) 128 e.1
 
 power-fits : (d : ℕ) → d < 128 → 2 ^ d - 1 < 2 ^ 127
-power-fits d h = let l : 2 ^ d ≤ 2 ^ 127 = pow-le-pow_right {n = 2} (omega arith) {j = 127} (omega arith) in let p : 0 < 2 ^ d = pow_pos d in omega arith
+power-fits d h =
+    let l : 2 ^ d ≤ 2 ^ 127 = pow-le-pow_right {n = 2} (omega arith) {j = 127} (omega arith) in
+    let p : 0 < 2 ^ d = pow_pos d in omega arith
 
-pub shifted-some : (z : ℤ) → IsSmall z → 1 ≤ 1 * 2 ^ (128 - count_leading_zeros 128 (unsigned_abs z)) % 340282366920938463463374607431768211456
-shifted-some z h = let p : 0 < 2 ^ digits 128 (unsigned_abs z) = pow_pos (digits 128 (unsigned_abs z)) in omega (arith, shifted z h)
+pub shifted-some : (z : ℤ) → IsSmall z
+    → 1 ≤ 1 * 2 ^ (128 - count_leading_zeros 128 (unsigned_abs z)) % 340282366920938463463374607431768211456
+shifted-some z h =
+    let p : 0 < 2 ^ digits 128 (unsigned_abs z) = pow_pos (digits 128 (unsigned_abs z)) in omega (arith, shifted z h)
 
 pub shifted-fits : (z : ℤ) → IsSmall z
     → FitsSigned w128 (pos (1 * 2 ^ (128 - count_leading_zeros 128 (unsigned_abs z)) % 340282366920938463463374607431768211456 - 1))
@@ -166,7 +179,8 @@ ones-of n h =
       ones = (digits 128 n, refl);
       above = power-above n (2 ^ digits 128 n) bounds.0;
       least = λ k l. less-ones (2 ^ digits 128 n) (2 ^ k)
-          (pow-le-pow_right {n = 2} (omega arith) (at-most (digits 128 n) k n bounds.1 (below-power n (2 ^ k) (pow_pos k) l)));
+          (pow-le-pow_right {n = 2} (omega arith)
+          (at-most (digits 128 n) k n bounds.1 (below-power n (2 ^ k) (pow_pos k) l)));
     }
 
 pub ones_above-is : (z r : ℤ) → IsSmall z → r ≡ ones_above z → IsOnesAbove z r
@@ -187,19 +201,22 @@ power-up : (d e : ℕ) → d ≤ e → 2 ^ d ≤ 2 ^ e
 power-up d e h = pow-le-pow_right {n = 2} (omega arith) h
 
 -- a pattern has no more digits than a number above it
-digits-hold : (x z : ℤ) → pos 0 ≤ℤ x → x ≤ℤ pos (2 ^ 64 - 1) → x ≤ℤ z → unsigned_abs x < 2 ^ digits 128 (unsigned_abs z)
+digits-hold : (x z : ℤ) → pos 0 ≤ℤ x → x ≤ℤ pos (2 ^ 64 - 1) → x ≤ℤ z
+    → unsigned_abs x < 2 ^ digits 128 (unsigned_abs z)
 digits-hold x z h k l =
     let s : pos (unsigned_abs x) ≡ x = size-is x h in
     let small : unsigned_abs x < 2 ^ 128 = omega (arith, ints) in
     let own : unsigned_abs x < 2 ^ digits 128 (unsigned_abs x) = (digits-bounds 128 (unsigned_abs x) small).0 in
     let more : 2 ^ digits 128 (unsigned_abs x) ≤ 2 ^ digits 128 (unsigned_abs z) =
-    power-up (digits 128 (unsigned_abs x)) (digits 128 (unsigned_abs z)) (digits-rise 128 (unsigned_abs x) (unsigned_abs z) (size-up x z h l)) in
+    power-up (digits 128 (unsigned_abs x)) (digits 128 (unsigned_abs z))
+    (digits-rise 128 (unsigned_abs x) (unsigned_abs z) (size-up x z h l)) in
     omega arith
 
 ones-rise : (x z : ℤ) → pos 0 ≤ℤ x → x ≤ℤ z → ones_above x ≤ℤ ones_above z
 ones-rise x z h k =
     let more : 2 ^ digits 128 (unsigned_abs x) ≤ 2 ^ digits 128 (unsigned_abs z) =
-    power-up (digits 128 (unsigned_abs x)) (digits 128 (unsigned_abs z)) (digits-rise 128 (unsigned_abs x) (unsigned_abs z) (size-up x z h k)) in
+    power-up (digits 128 (unsigned_abs x)) (digits 128 (unsigned_abs z))
+    (digits-rise 128 (unsigned_abs x) (unsigned_abs z) (size-up x z h k)) in
     natural-le (2 ^ digits 128 (unsigned_abs x)) (2 ^ digits 128 (unsigned_abs z)) more
   where
     natural-le : (p q : ℕ) → p ≤ q → pos (p - 1) ≤ℤ pos (q - 1)
@@ -209,7 +226,8 @@ ones-rise x z h k =
 abbrev pub IsPattern : ℤ → Type 0
 IsPattern z = (pos 0 ≤ℤ z) × (z ≤ℤ pos (2 ^ 64 - 1))
 
-and-bounds : (x y b d : ℤ) → IsPattern x → IsPattern y → x ≤ℤ b → y ≤ℤ d → (pos 0 ≤ℤ and_of x y) × (and_of x y ≤ℤ int_min b d)
+and-bounds : (x y b d : ℤ) → IsPattern x → IsPattern y → x ≤ℤ b → y ≤ℤ d → (pos 0 ≤ℤ and_of x y)
+    × (and_of x y ≤ℤ int_min b d)
 and-bounds x y b d p q h k =
     let sx : pos (unsigned_abs x) ≡ x = size-is x p.0 in
     let sy : pos (unsigned_abs y) ≡ y = size-is y q.0 in
@@ -217,7 +235,8 @@ and-bounds x y b d p q h k =
     let r : bit_and (unsigned_abs x) (unsigned_abs y) ≤ unsigned_abs y = and_le_r (unsigned_abs x) (unsigned_abs y) in
     bounds x y b d (unsigned_abs x) (unsigned_abs y) (bit_and (unsigned_abs x) (unsigned_abs y)) sx sy l r h k
   where
-    bounds : (x y b d : ℤ) (m n r : ℕ) → pos m ≡ x → pos n ≡ y → r ≤ m → r ≤ n → x ≤ℤ b → y ≤ℤ d → (pos 0 ≤ℤ pos r) × (pos r ≤ℤ int_min b d)
+    bounds : (x y b d : ℤ) (m n r : ℕ) → pos m ≡ x → pos n ≡ y → r ≤ m → r ≤ n → x ≤ℤ b → y ≤ℤ d → (pos 0 ≤ℤ pos r)
+        × (pos r ≤ℤ int_min b d)
     bounds x y b d m n r e f g i j k = (omega (arith, ints), omega (arith, ints, clamps))
 
 below-ones : (r p : ℕ) → r < p → pos r ≤ℤ pos (p - 1)
@@ -234,17 +253,20 @@ or-high : (x y b d : ℤ) → IsPattern x → IsPattern y → x ≤ℤ b → y �
 or-high x y b d p q h k =
     below-ones (bit_or (unsigned_abs x) (unsigned_abs y)) (2 ^ digits 128 (unsigned_abs (int_max b d)))
     (or_lt (digits 128 (unsigned_abs (int_max b d))) (unsigned_abs x) (unsigned_abs y)
-    (digits-hold x (int_max b d) p.0 p.1 (le-greater-left x b d h)) (digits-hold y (int_max b d) q.0 q.1 (le-greater-right y b d k)))
+    (digits-hold x (int_max b d) p.0 p.1 (le-greater-left x b d h))
+    (digits-hold y (int_max b d) q.0 q.1 (le-greater-right y b d k)))
 
 xor-high : (x y b d : ℤ) → IsPattern x → IsPattern y → x ≤ℤ b → y ≤ℤ d → xor_of x y ≤ℤ ones_above (int_max b d)
 xor-high x y b d p q h k =
     below-ones (bit_xor (unsigned_abs x) (unsigned_abs y)) (2 ^ digits 128 (unsigned_abs (int_max b d)))
     (xor_lt (digits 128 (unsigned_abs (int_max b d))) (unsigned_abs x) (unsigned_abs y)
-    (digits-hold x (int_max b d) p.0 p.1 (le-greater-left x b d h)) (digits-hold y (int_max b d) q.0 q.1 (le-greater-right y b d k)))
+    (digits-hold x (int_max b d) p.0 p.1 (le-greater-left x b d h))
+    (digits-hold y (int_max b d) q.0 q.1 (le-greater-right y b d k)))
 
 or-low : (x y a c : ℤ) → IsPattern x → IsPattern y → a ≤ℤ x → c ≤ℤ y → int_max a c ≤ℤ or_of x y
 or-low x y a c p q h k =
-    low x y a c (unsigned_abs x) (unsigned_abs y) (bit_or (unsigned_abs x) (unsigned_abs y)) (size-is x p.0) (size-is y q.0)
+    low x y a c (unsigned_abs x) (unsigned_abs y) (bit_or (unsigned_abs x) (unsigned_abs y)) (size-is x p.0)
+    (size-is y q.0)
     (le_or_l (unsigned_abs x) (unsigned_abs y)) (le_or_r (unsigned_abs x) (unsigned_abs y)) h k
   where
     low : (x y a c : ℤ) (m n r : ℕ) → pos m ≡ x → pos n ≡ y → m ≤ r → n ≤ r → a ≤ℤ x → c ≤ℤ y → int_max a c ≤ℤ pos r
@@ -279,7 +301,8 @@ and-operator = record {
 pub or-operator : IsPatternOperator IsPattern IsPattern or_of or_other
 or-operator = record {
   held = λ a b c d x y p q h k l m.
-      span-holds (int_max a c) (ones_above (int_max b d)) (or_of x y) (or-low x y a c p q h l) (or-high x y b d p q k m);
+      span-holds (int_max a c) (ones_above (int_max b d)) (or_of x y) (or-low x y a c p q h l)
+      (or-high x y b d p q k m);
   grows = λ a b c d e f g n p q h k l m.
       span-within (int_max a c) (ones_above (int_max b d)) (int_max e g) (ones_above (int_max f n))
       (greater-up e g a c h l) (ones-grow b d f n p k m);
@@ -291,7 +314,8 @@ xor-operator = record {
       span-holds (pos 0) (ones_above (int_max b d)) (xor_of x y)
       (natural-le-zero (bit_xor (unsigned_abs x) (unsigned_abs y))) (xor-high x y b d p q k m);
   grows = λ a b c d e f g n p q h k l m.
-      span-within (pos 0) (ones_above (int_max b d)) (pos 0) (ones_above (int_max f n)) (itself (pos 0)) (ones-grow b d f n p k m);
+      span-within (pos 0) (ones_above (int_max b d)) (pos 0) (ones_above (int_max f n)) (itself (pos 0))
+      (ones-grow b d f n p k m);
 }
 
 -- ---- the patterns of a type are words
@@ -301,8 +325,11 @@ ones-fit t = int_le (all_ones t) (pos (2 ^ 64 - 1))
 
 pub bits-words : (t : Elem) (i : Interval) → IsWithin i (bits_range t) → IsWithin i words
 bits-words t Empty h = tt
-bits-words t (Span a b) h =
-    (h.0, through b (all_ones t) (pos (2 ^ 64 - 1)) h.1 (le-is (all_ones t) (pos (2 ^ 64 - 1)) (for-each-type ones-fit refl t)))
+bits-words t (Span a b) h = (
+  h.0,
+  through b (all_ones t) (pos (2 ^ 64 - 1)) h.1
+      (le-is (all_ones t) (pos (2 ^ 64 - 1)) (for-each-type ones-fit refl t)),
+)
 
 -- of an operand that is cut to the patterns of a type
 pub cut-words : (t : Elem) (i : Interval) → IsWithin (patterns_in (width_of t) i) words
@@ -313,15 +340,18 @@ cut-patterns t i x h = holds-within (patterns_in (width_of t) i) words x (cut-wo
 
 -- ---- NOT
 
-pub cut-held-not : (t : Elem) (i : Interval) → Contains (of_one (not_of t) (patterns_in (width_of t) i)) same (cut_not_row t i)
-cut-held-not t i = held-one same (not_of t) (mirrored_at (all_ones t)) (flipped (all_ones t)) (patterns_in (width_of t) i)
+pub cut-held-not : (t : Elem) (i : Interval)
+    → Contains (of_one (not_of t) (patterns_in (width_of t) i)) same (cut_not_row t i)
+cut-held-not t i =
+    held-one same (not_of t) (mirrored_at (all_ones t)) (flipped (all_ones t)) (patterns_in (width_of t) i)
   where
     flipped : (m a b x : ℤ) → a ≤ℤ x → x ≤ℤ b → ((m -ℤ b) ≤ℤ (m -ℤ x)) × ((m -ℤ x) ≤ℤ (m -ℤ a))
     flipped m a b x h k = (omega (arith, ints), omega (arith, ints))
 
 pub cut-larger-not : (t : Elem) (i : Interval) → GrowsOne (cut_not_row t) i
 cut-larger-not t i k h =
-    rises-one (mirrored_at (all_ones t)) (flipped (all_ones t)) (patterns_in (width_of t) i) (patterns_in (width_of t) k)
+    rises-one (mirrored_at (all_ones t)) (flipped (all_ones t)) (patterns_in (width_of t) i)
+    (patterns_in (width_of t) k)
     (meet-within i k (bits_range t) h)
   where
     flipped : (m a b c d : ℤ) → c ≤ℤ a → b ≤ℤ d → ((m -ℤ d) ≤ℤ (m -ℤ b)) × ((m -ℤ a) ≤ℤ (m -ℤ c))

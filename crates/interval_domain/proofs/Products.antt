@@ -18,14 +18,17 @@ up-by : (n : ℕ) (c y : ℤ) → c ≤ℤ y → (pos n *ℤ c) ≤ℤ (pos n *�
 up-by n (pos c) (pos y) h = let k : n * c ≤ n * y = scaled n c y (omega (arith, ints)) in omega (arith, ints)
 up-by n (pos c) (negsuc y) h = absurd (omega (arith, ints))
 up-by n (negsuc c) (pos y) h = omega (arith, ints)
-up-by n (negsuc c) (negsuc y) h = let k : n * suc y ≤ n * suc c = scaled n (suc y) (suc c) (omega (arith, ints)) in omega (arith, ints)
+up-by n (negsuc c) (negsuc y) h =
+    let k : n * suc y ≤ n * suc c = scaled n (suc y) (suc c) (omega (arith, ints)) in omega (arith, ints)
 
 down-by : (n : ℕ) (c y : ℤ) → c ≤ℤ y → (negsuc n *ℤ y) ≤ℤ (negsuc n *ℤ c)
-down-by n (pos c) (pos y) h = let k : suc n * c ≤ suc n * y = scaled (suc n) c y (omega (arith, ints)) in omega (arith, ints)
+down-by n (pos c) (pos y) h =
+    let k : suc n * c ≤ suc n * y = scaled (suc n) c y (omega (arith, ints)) in omega (arith, ints)
 down-by n (pos c) (negsuc y) h = absurd (omega (arith, ints))
 down-by n (negsuc c) (pos y) h = omega (arith, ints)
 down-by n (negsuc c) (negsuc y) h =
-    let k : suc n * suc y ≤ suc n * suc c = scaled (suc n) (suc y) (suc c) (omega (arith, ints)) in omega (arith, ints)
+    let k : suc n * suc y ≤ suc n * suc c = scaled (suc n) (suc y) (suc c) (omega (arith, ints)) in
+    omega (arith, ints)
 
 by-second : (x c d y : ℤ) → c ≤ℤ y → y ≤ℤ d → IsBetween (x *ℤ c) (x *ℤ d) (x *ℤ y)
 by-second (pos n) c d y h k = inl (up-by n c y h, up-by n y d k)
@@ -39,7 +42,8 @@ held-mul = held-two kept product_of mul_at at
   where
     at : (a b c d x y : ℤ) → a ≤ℤ x → x ≤ℤ b → c ≤ℤ y → y ≤ℤ d → Holds (mul_at a b c d) (kept (product_of x y))
     at a b c d x y h k l m =
-        between-held (kept (a *ℤ c)) (kept (a *ℤ d)) (kept (b *ℤ c)) (kept (b *ℤ d)) (kept (a *ℤ y)) (kept (b *ℤ y)) (kept (x *ℤ y))
+        between-held (kept (a *ℤ c)) (kept (a *ℤ d)) (kept (b *ℤ c)) (kept (b *ℤ d)) (kept (a *ℤ y)) (kept (b *ℤ y))
+        (kept (x *ℤ y))
         (between-kept (a *ℤ c) (a *ℤ d) (a *ℤ y) (by-second a c d y l m))
         (between-kept (b *ℤ c) (b *ℤ d) (b *ℤ y) (by-second b c d y l m))
         (between-kept (a *ℤ y) (b *ℤ y) (x *ℤ y) (by-first a b x y h k))

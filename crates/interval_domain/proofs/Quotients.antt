@@ -25,18 +25,22 @@ div-down a p q h k = le-div (a / q) a p h (omega (arith, mul-le-mul_left (a / q)
 -- ---- by one divisor
 
 by-positive : (k : ℕ) (x z : ℤ) → x ≤ℤ z → int_div x (pos (suc k)) ≤ℤ int_div z (pos (suc k))
-by-positive k (pos x) (pos z) h = let l : x / suc k ≤ z / suc k = div-up x z (suc k) (omega arith) (omega (arith, ints)) in omega (arith, ints)
+by-positive k (pos x) (pos z) h =
+    let l : x / suc k ≤ z / suc k = div-up x z (suc k) (omega arith) (omega (arith, ints)) in omega (arith, ints)
 by-positive k (pos x) (negsuc z) h = absurd (omega (arith, ints))
 by-positive k (negsuc x) (pos z) h = omega (arith, ints)
 by-positive k (negsuc x) (negsuc z) h =
-    let l : suc z / suc k ≤ suc x / suc k = div-up (suc z) (suc x) (suc k) (omega arith) (omega (arith, ints)) in omega (arith, ints)
+    let l : suc z / suc k ≤ suc x / suc k = div-up (suc z) (suc x) (suc k) (omega arith) (omega (arith, ints)) in
+    omega (arith, ints)
 
 by-negative : (k : ℕ) (x z : ℤ) → x ≤ℤ z → int_div z (negsuc k) ≤ℤ int_div x (negsuc k)
-by-negative k (pos x) (pos z) h = let l : x / suc k ≤ z / suc k = div-up x z (suc k) (omega arith) (omega (arith, ints)) in omega (arith, ints)
+by-negative k (pos x) (pos z) h =
+    let l : x / suc k ≤ z / suc k = div-up x z (suc k) (omega arith) (omega (arith, ints)) in omega (arith, ints)
 by-negative k (pos x) (negsuc z) h = absurd (omega (arith, ints))
 by-negative k (negsuc x) (pos z) h = omega (arith, ints)
 by-negative k (negsuc x) (negsuc z) h =
-    let l : suc z / suc k ≤ suc x / suc k = div-up (suc z) (suc x) (suc k) (omega arith) (omega (arith, ints)) in omega (arith, ints)
+    let l : suc z / suc k ≤ suc x / suc k = div-up (suc z) (suc x) (suc k) (omega arith) (omega (arith, ints)) in
+    omega (arith, ints)
 
 by-first : (a b x y : ℤ) → IsDivisor y → a ≤ℤ x → x ≤ℤ b → IsBetween (int_div a y) (int_div b y) (int_div x y)
 by-first a b x (pos zero) n h k = absurd (n refl)
@@ -45,15 +49,18 @@ by-first a b x (negsuc m) n h k = inr (by-negative m x b k, by-negative m a x h)
 
 -- ---- of one number, by divisors of one sign
 
-of-positive : (x : ℤ) (c d y : ℕ) → 0 < c → c ≤ y → y ≤ d → IsBetween (int_div x (pos c)) (int_div x (pos d)) (int_div x (pos y))
+of-positive : (x : ℤ) (c d y : ℕ) → 0 < c → c ≤ y → y ≤ d
+    → IsBetween (int_div x (pos c)) (int_div x (pos d)) (int_div x (pos y))
 of-positive (pos x) c d y p h k =
     let l : x / y ≤ x / c = div-down x c y p h in let m : x / d ≤ x / y = div-down x y d (omega arith) k in
     inr (omega (arith, ints), omega (arith, ints))
 of-positive (negsuc x) c d y p h k =
-    let l : suc x / y ≤ suc x / c = div-down (suc x) c y p h in let m : suc x / d ≤ suc x / y = div-down (suc x) y d (omega arith) k in
+    let l : suc x / y ≤ suc x / c = div-down (suc x) c y p h in let m : suc x / d ≤ suc x / y = div-down (suc x) y d
+    (omega arith) k in
     inl (omega (arith, ints), omega (arith, ints))
 
-of-negative : (x : ℤ) (c d y : ℕ) → y ≤ c → d ≤ y → IsBetween (int_div x (negsuc c)) (int_div x (negsuc d)) (int_div x (negsuc y))
+of-negative : (x : ℤ) (c d y : ℕ) → y ≤ c → d ≤ y
+    → IsBetween (int_div x (negsuc c)) (int_div x (negsuc d)) (int_div x (negsuc y))
 of-negative (pos x) c d y h k =
     let l : x / suc c ≤ x / suc y = div-down x (suc y) (suc c) (omega arith) (omega arith) in
     let m : x / suc y ≤ x / suc d = div-down x (suc d) (suc y) (omega arith) (omega arith) in
@@ -68,7 +75,8 @@ abbrev HasOneSign : ℤ → ℤ → Type 0
 HasOneSign c d = (pos 0 <ℤ c) ⊎ (d <ℤ pos 0)
 
 by-second : (x c d y : ℤ) → HasOneSign c d → c ≤ℤ y → y ≤ℤ d → IsBetween (int_div x c) (int_div x d) (int_div x y)
-by-second x (pos c) (pos d) (pos y) (inl s) h k = of-positive x c d y (omega (arith, ints)) (omega (arith, ints)) (omega (arith, ints))
+by-second x (pos c) (pos d) (pos y) (inl s) h k =
+    of-positive x c d y (omega (arith, ints)) (omega (arith, ints)) (omega (arith, ints))
 by-second x (pos c) (pos d) (pos y) (inr s) h k = absurd (omega (arith, ints))
 by-second x (pos c) (pos d) (negsuc y) s h k = absurd (omega (arith, ints))
 by-second x (pos c) (negsuc d) y s h k = absurd (omega (arith, ints))
@@ -87,7 +95,8 @@ held-part : (a b c d x y : ℤ) → HasOneSign c d → Holds (Span a b) x → Ho
     → Holds (quotients (Span a b) (Span c d)) (kept (quotient_of x y))
 held-part a b c d x y s h k =
     let n : IsDivisor y = sign-divides c d y s k.0 k.1 in
-    between-held (kept (int_div a c)) (kept (int_div a d)) (kept (int_div b c)) (kept (int_div b d)) (kept (int_div a y)) (kept (int_div b y)) (kept (int_div x y))
+    between-held (kept (int_div a c)) (kept (int_div a d)) (kept (int_div b c)) (kept (int_div b d))
+    (kept (int_div a y)) (kept (int_div b y)) (kept (int_div x y))
     (between-kept (int_div a c) (int_div a d) (int_div a y) (by-second a c d y s k.0 k.1))
     (between-kept (int_div b c) (int_div b d) (int_div b y) (by-second b c d y s k.0 k.1))
     (between-kept (int_div a y) (int_div b y) (int_div x y) (by-first a b x y n h.0 h.1))
@@ -95,13 +104,16 @@ held-part a b c d x y s h k =
 held-below : (a b c d x y : ℤ) → y <ℤ pos 0 → Holds (Span a b) x → Holds (Span c d) y
     → Holds (quotients (Span a b) (below_zero (Span c d))) (kept (quotient_of x y))
 held-below a b c d x y s h k =
-    subst (λ (j : Interval). Holds (quotients (Span a b) j) (kept (quotient_of x y))) (sym (span-ordered c (int_min d (negsuc 0)) (omega (arith, ints, clamps))))
-    (held-part a b c (int_min d (negsuc 0)) x y (inr (omega (arith, ints, clamps))) h (k.0, omega (arith, ints, clamps)))
+    subst (λ (j : Interval). Holds (quotients (Span a b) j) (kept (quotient_of x y)))
+    (sym (span-ordered c (int_min d (negsuc 0)) (omega (arith, ints, clamps))))
+    (held-part a b c (int_min d (negsuc 0)) x y (inr (omega (arith, ints, clamps))) h
+    (k.0, omega (arith, ints, clamps)))
 
 held-above : (a b c d x y : ℤ) → pos 0 <ℤ y → Holds (Span a b) x → Holds (Span c d) y
     → Holds (quotients (Span a b) (above_zero (Span c d))) (kept (quotient_of x y))
 held-above a b c d x y s h k =
-    subst (λ (j : Interval). Holds (quotients (Span a b) j) (kept (quotient_of x y))) (sym (span-ordered (int_max c (pos 1)) d (omega (arith, ints, clamps))))
+    subst (λ (j : Interval). Holds (quotients (Span a b) j) (kept (quotient_of x y)))
+    (sym (span-ordered (int_max c (pos 1)) d (omega (arith, ints, clamps))))
     (held-part a b (int_max c (pos 1)) d x y (inl (omega (arith, ints, clamps))) h (omega (arith, ints, clamps), k.1))
 
 above-or-zero : (y : ℤ) → IsDivisor y → pos 0 ≤ℤ y → pos 0 <ℤ y
@@ -109,7 +121,8 @@ above-or-zero (pos zero) n h = absurd (n refl)
 above-or-zero (pos (suc k)) n h = omega (arith, ints)
 above-or-zero (negsuc k) n h = absurd (omega (arith, ints))
 
-held-quotient : (i j : Interval) (x y : ℤ) → Holds i x → Holds j y → IsDivisor y → Holds (div_raw i j) (kept (quotient_of x y))
+held-quotient : (i j : Interval) (x y : ℤ) → Holds i x → Holds j y → IsDivisor y
+    → Holds (div_raw i j) (kept (quotient_of x y))
 held-quotient Empty j x y h k n = absurd h
 held-quotient (Span a b) Empty x y h k n = absurd k
 held-quotient (Span a b) (Span c d) x y h k n =
@@ -125,7 +138,8 @@ held-div i j z (x, y, h, k, n, e) =
 
 -- the part by divisors in order that are in j
 part-within : (a b c d : ℤ) (k : Interval) → a ≤ℤ b
-    → ((x y : ℤ) → Holds (Span a b) x → Holds (Span c d) y → Holds k (kept (quotient_of x y))) → IsWithin (quotients (Span a b) (span c d)) k
+    → ((x y : ℤ) → Holds (Span a b) x → Holds (Span c d) y → Holds k (kept (quotient_of x y)))
+    → IsWithin (quotients (Span a b) (span c d)) k
 part-within a b c d k p all =
     by_lt_z d c
     (λ r. subst (λ (j : Interval). IsWithin (quotients (Span a b) j) k) (sym (span-reversed c d r)) tt)

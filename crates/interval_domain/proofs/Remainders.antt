@@ -88,7 +88,8 @@ greatest-ge b x m r p h k =
 pub remainders-of : (a b : ℤ) (m : ℕ) → 0 < m → remainders a b m ≡ span (least_remainder a m) (greatest_remainder b m)
 remainders-of a b m h = rw (not-none m h) refl
 
-held-at : (a b c d x y : ℤ) → IsDivisor y → a ≤ℤ x → x ≤ℤ b → c ≤ℤ y → y ≤ℤ d → Holds (modulo_at a b c d) (remainder_of x y)
+held-at : (a b c d x y : ℤ) → IsDivisor y → a ≤ℤ x → x ≤ℤ b → c ≤ℤ y → y ≤ℤ d
+    → Holds (modulo_at a b c d) (remainder_of x y)
 held-at a b c d x y n h k l m =
     let size : ℕ = max (unsigned_abs c) (unsigned_abs d) in
     let above : 0 < unsigned_abs y = size-above y n in
@@ -115,12 +116,14 @@ least-falls e a k m p q h =
     (by_lt_z a (pos 0)
     (λ u. rw (lt-yes a (pos 0) u) (omega (arith, ints, clamps)))
     (λ u. rw (lt-no a (pos 0) u) (omega (arith, ints, clamps)))))
-    (λ s. let above : pos 0 ≤ℤ a = omega (arith, ints) in rw (lt-no e (pos 0) s, lt-no a (pos 0) above) (omega (arith, ints)))
+    (λ s. let above : pos 0 ≤ℤ a = omega (arith, ints) in rw (lt-no e (pos 0) s, lt-no a (pos 0) above)
+    (omega (arith, ints)))
 
 greatest-rises : (b f : ℤ) (k m : ℕ) → 0 < m → m ≤ k → b ≤ℤ f → greatest_remainder b m ≤ℤ greatest_remainder f k
 greatest-rises b f k m p q h =
     by_lt_z (pos 0) b
-    (λ s. let above : pos 0 <ℤ f = omega (arith, ints) in rw (lt-yes (pos 0) b s, lt-yes (pos 0) f above) (omega (arith, ints, clamps)))
+    (λ s. let above : pos 0 <ℤ f = omega (arith, ints) in rw (lt-yes (pos 0) b s, lt-yes (pos 0) f above)
+    (omega (arith, ints, clamps)))
     (λ s. rw (lt-no (pos 0) b s)
     (by_lt_z (pos 0) f
     (λ u. rw (lt-yes (pos 0) f u) (omega (arith, ints, clamps)))
@@ -131,7 +134,8 @@ remainders-within a b e f zero k h l r = tt
 remainders-within a b e f (suc m) zero h l r = absurd (omega arith)
 remainders-within a b e f (suc m) (suc k) h l r =
     rw (not-none (suc m) (omega arith), not-none (suc k) (omega arith))
-    (span-within (least_remainder a (suc m)) (greatest_remainder b (suc m)) (least_remainder e (suc k)) (greatest_remainder f (suc k))
+    (span-within (least_remainder a (suc m)) (greatest_remainder b (suc m)) (least_remainder e (suc k))
+    (greatest_remainder f (suc k))
     (least-falls e a (suc k) (suc m) (omega arith) h l) (greatest-rises b f (suc k) (suc m) (omega arith) h r))
 
 pub larger-modulo : (i j : Interval) → IsOrdered j → GrowsTwo modulo_row i j
@@ -141,6 +145,9 @@ larger-modulo i j o k l =
     at : (a b c d e f g n : ℤ) → Unit {0} → c ≤ℤ d → e ≤ℤ a → b ≤ℤ f → g ≤ℤ c → d ≤ℤ n
         → IsWithin (modulo_at a b c d) (modulo_at e f g n)
     at a b c d e f g n u o h k l m =
-        let low : unsigned_abs c ≤ max (unsigned_abs g) (unsigned_abs n) = size-within g n c l (omega (arith, ints)) in
-        let high : unsigned_abs d ≤ max (unsigned_abs g) (unsigned_abs n) = size-within g n d (omega (arith, ints)) m in
-        remainders-within a b e f (max (unsigned_abs c) (unsigned_abs d)) (max (unsigned_abs g) (unsigned_abs n)) (omega arith) h k
+        let low : unsigned_abs c ≤ max (unsigned_abs g) (unsigned_abs n) = size-within g n c l
+        (omega (arith, ints)) in
+        let high : unsigned_abs d ≤ max (unsigned_abs g) (unsigned_abs n) = size-within g n d
+        (omega (arith, ints)) m in
+        remainders-within a b e f (max (unsigned_abs c) (unsigned_abs d)) (max (unsigned_abs g) (unsigned_abs n))
+        (omega arith) h k

@@ -29,9 +29,11 @@ last-grows d e z w (x ∷ xs) p q r s =
     (λ above_z. by_lt_z w x
     (λ above_w. rw (le-no x z above_z, le-no x w above_w) (last-grows d e z w xs p q r s))
     (λ below_w. rw (le-no x z above_z, le-yes x w below_w) (last-grows d x z w xs (omega (arith, ints)) q below_w s)))
-    (λ below_z. rw (le-yes x z below_z, le-yes x w (omega (arith, ints))) (last-grows x x z w xs (omega (arith, ints)) below_z (omega (arith, ints)) s))
+    (λ below_z. rw (le-yes x z below_z, le-yes x w (omega (arith, ints)))
+    (last-grows x x z w xs (omega (arith, ints)) below_z (omega (arith, ints)) s))
 
-first-grows : (z w : ℤ) (g : List ℤ) → z ≤ℤ w → first_or z (filter (λ n. int_le z n) g) ≤ℤ first_or w (filter (λ n. int_le w n) g)
+first-grows : (z w : ℤ) (g : List ℤ) → z ≤ℤ w
+    → first_or z (filter (λ n. int_le z n) g) ≤ℤ first_or w (filter (λ n. int_le w n) g)
 first-grows z w [] s = s
 first-grows z w (x ∷ xs) s =
     by_lt_z x z

@@ -11,7 +11,8 @@ use Rattle.interval_domain.proofs.Strict.{Contains, IsLeastFor, GrowsOne, GrowsT
 
 -- of an operator whose results may leave the type
 sound-where : (results : ℤ → Type 0) (shown : ℤ → ℤ) (t : Elem) → ((z : ℤ) → fits t z → shown z ≡ z)
-    → (row raw out : Interval) → raw ≡ row → out ≡ typed t row → Contains results shown row → IsSound results shown (fits t) raw out
+    → (row raw out : Interval) → raw ≡ row → out ≡ typed t row → Contains results shown row
+    → IsSound results shown (fits t) raw out
 sound-where results shown t shows row raw out e f held = record {
   whole = λ z r. subst (λ (i : Interval). Holds i (shown z)) (sym e) (held z r);
   concrete = λ z r h. subst (λ (i : Interval). Holds i z) (sym f)
@@ -66,7 +67,8 @@ grows-one row part grows a raw out e f larger = record {
       within-by out o (part (row a)) (part (row c)) f q (grows (row a) (row c) (larger c h));
 }
 
-pub grows-two : (row : Interval → Interval → Interval) (part : Interval → Interval) → Grows part → (a b raw out : Interval)
+pub grows-two : (row : Interval → Interval → Interval) (part : Interval → Interval) → Grows part
+    → (a b raw out : Interval)
     → raw ≡ row a b → out ≡ part (row a b) → GrowsTwo row a b
     → IsMonotone (with_two row (λ c d. part (row c d)) a b) raw out
 grows-two row part grows a b raw out e f larger = record {

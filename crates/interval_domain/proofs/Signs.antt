@@ -42,7 +42,8 @@ size-is : (x : ℤ) → size_of x ≡ int_max x (neg_ℤ x)
 size-is (pos n) = omega (arith, ints, clamps)
 size-is (negsuc n) = omega (arith, ints, clamps)
 
-held-size : (a b x s : ℤ) → s ≡ int_max x (neg_ℤ x) → a ≤ℤ x → x ≤ℤ b → (least_size a b ≤ℤ s) × (s ≤ℤ greatest_size a b)
+held-size : (a b x s : ℤ) → s ≡ int_max x (neg_ℤ x) → a ≤ℤ x → x ≤ℤ b → (least_size a b ≤ℤ s)
+    × (s ≤ℤ greatest_size a b)
 held-size a b x s e h k = (omega (arith, ints, clamps), omega (arith, ints, clamps))
 
 pub held-abs : (i : Interval) → Contains (of_one size_of i) kept (abs_raw i)
@@ -82,7 +83,8 @@ pub abs-ordered : (a b : ℤ) → a ≤ℤ b → kept (least_size a b) ≤ℤ ke
 abs-ordered a b o = kept-le (least_size a b) (greatest_size a b) (omega (arith, ints, clamps))
 
 -- from bounds that are kept already
-pub least_size-is : (a b : ℤ) → a ≤ℤ pos (2 ^ 127 - 1) → int_max (int_max a (kept (neg_ℤ b))) (pos 0) ≡ kept (least_size a b)
+pub least_size-is : (a b : ℤ) → a ≤ℤ pos (2 ^ 127 - 1)
+    → int_max (int_max a (kept (neg_ℤ b))) (pos 0) ≡ kept (least_size a b)
 least_size-is a b h = omega (arith, ints, clamps)
 
 pub greatest_size-is : (a b : ℤ) → int_max (kept (neg_ℤ a)) (kept b) ≡ kept (greatest_size a b)

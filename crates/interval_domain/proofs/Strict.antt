@@ -1,4 +1,5 @@
--- What holds of an operator on intervals, from what holds of the results that it gives for bounds: once for all operators that are empty
+-- What holds of an operator on intervals, from what holds of the results that it gives for bounds: once for all
+-- operators that are empty
 -- where an operand is.
 use Rattle.std.proofs.Common.{ℤ, ◌≤ℤ◌, subst}
 use Rattle.interval_domain.specs.Interval.{Interval, Empty, Span, Holds, IsWithin, IsOrdered, strict_one, strict}
@@ -88,7 +89,8 @@ rises-one at rises (Span a b) (Span e f) h = rises a b e f h.0 h.1
 pub grows-where : (at : (a b c d : ℤ) → Interval) (Left Right : (small large : Interval) → Type 0)
     → ((a b c d e f g n : ℤ) → Left (Span a b) (Span e f) → Right (Span c d) (Span g n)
     → e ≤ℤ a → b ≤ℤ f → g ≤ℤ c → d ≤ℤ n → IsWithin (at a b c d) (at e f g n))
-    → (i j k l : Interval) → Left i k → Right j l → IsWithin i k → IsWithin j l → IsWithin (strict at i j) (strict at k l)
+    → (i j k l : Interval) → Left i k → Right j l → IsWithin i k → IsWithin j l
+    → IsWithin (strict at i j) (strict at k l)
 grows-where at Left Right grows Empty j k l p q h m = tt
 grows-where at Left Right grows (Span a b) Empty k l p q h m = tt
 grows-where at Left Right grows (Span a b) (Span c d) Empty l p q h m = absurd h

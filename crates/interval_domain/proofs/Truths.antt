@@ -87,7 +87,8 @@ truths-of a b o h k =
 abbrev pub of-each : (Interval → Bool) → Bool
 of-each p = p (Span (pos 0) (pos 0)) && p (Span (pos 1) (pos 1)) && p (Span (pos 0) (pos 1))
 
-first-two : (p : Interval → Bool) → of-each p ≡ true → (p (Span (pos 0) (pos 0)) ≡ true) × (p (Span (pos 1) (pos 1)) ≡ true)
+first-two : (p : Interval → Bool) → of-each p ≡ true → (p (Span (pos 0) (pos 0)) ≡ true)
+    × (p (Span (pos 1) (pos 1)) ≡ true)
 first-two p h =
     and-is (p (Span (pos 0) (pos 0))) (p (Span (pos 1) (pos 1)))
     (and-is (p (Span (pos 0) (pos 0)) && p (Span (pos 1) (pos 1))) (p (Span (pos 0) (pos 1))) h).0
@@ -123,7 +124,8 @@ xor-table = refl
 -- ---- of operands that are cut to the patterns of a type of one bit
 
 bool-least : (op : ℤ → ℤ → ℤ) (other : (a b c d : ℤ) → Interval) → table op other ≡ true
-    → (i j : Interval) → IsOrdered i → IsOrdered j → IsWithin i (Span (pos 0) (pos 1)) → IsWithin j (Span (pos 0) (pos 1))
+    → (i j : Interval) → IsOrdered i → IsOrdered j → IsWithin i (Span (pos 0) (pos 1))
+    → IsWithin j (Span (pos 0) (pos 1))
     → IsLeastFor (of_two op i j) same (pattern_row op other i j)
 bool-least op other h Empty j o p v w = λ k all. tt
 bool-least op other h (Span a b) Empty o p v w = λ k all. tt
@@ -132,7 +134,8 @@ bool-least op other h (Span a b) (Span c d) o p v w =
 
 cut-truths : (t : Elem) (i : Interval) → width_of t ≡ 1 → IsWithin (patterns_in (width_of t) i) (Span (pos 0) (pos 1))
 cut-truths t i one =
-    subst (λ (w : ℕ). IsWithin (patterns_in (width_of t) i) (Span (pos 0) (pos (2 ^ w - 1)))) one (meet-right i (bits_range t))
+    subst (λ (w : ℕ). IsWithin (patterns_in (width_of t) i) (Span (pos 0) (pos (2 ^ w - 1)))) one
+    (meet-right i (bits_range t))
 
 pub cut-least : (op : ℤ → ℤ → ℤ) (other : (a b c d : ℤ) → Interval) → table op other ≡ true
     → (t : Elem) (i j : Interval) → width_of t ≡ 1

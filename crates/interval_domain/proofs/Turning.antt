@@ -23,7 +23,8 @@ turned-below w x p h k =
     let split : 2 ^ w ≡ 2 ^ (w - p) * 2 ^ p = ap (λ n. 2 ^ n) (sym whole) ∙ pow-add 2 (w - p) p in
     let fits : x < 2 ^ ((w - p) + p) = subst (λ (n : ℕ). x < 2 ^ n) (sym whole) k in
     subst (λ (n : ℕ). turned w x p < n) (sym split)
-    (mul-add-lt (x % 2 ^ p) (2 ^ (w - p)) (x / 2 ^ p) (2 ^ p) (mod_below x (2 ^ p) (pow_pos p)) (shr_below x (w - p) p fits))
+    (mul-add-lt (x % 2 ^ p) (2 ^ (w - p)) (x / 2 ^ p) (2 ^ p) (mod_below x (2 ^ p) (pow_pos p))
+    (shr_below x (w - p) p fits))
 
 -- what the code computes
 pub turned-at : (w x p r q : ℕ) → p ≤ w → x < 2 ^ w → q ≡ 2 ^ p → r ≡ (x % q) * 2 ^ (w - p) → r + x / 2 ^ p < 2 ^ w
@@ -61,9 +62,11 @@ pattern-op op w keeps = record {
 
 pub shl-operator : (w : ℕ) → IsPatternOperator (Holds (patterns w)) any (shl_of w) (any_pattern w)
 shl-operator w =
-    pattern-op shl_of w (λ x n h. natural-pattern w _ (mod_below (unsigned_abs x * 2 ^ moved w n) (2 ^ w) (pow_pos w)))
+    pattern-op shl_of w (λ x n h. natural-pattern w _
+    (mod_below (unsigned_abs x * 2 ^ moved w n) (2 ^ w) (pow_pos w)))
 
-turned-pattern : (w place : ℕ) (x : ℤ) → place ≤ w → Holds (patterns w) x → Holds (patterns w) (pos (turned w (unsigned_abs x) place))
+turned-pattern : (w place : ℕ) (x : ℤ) → place ≤ w → Holds (patterns w) x
+    → Holds (patterns w) (pos (turned w (unsigned_abs x) place))
 turned-pattern w place x h p =
     natural-pattern w (turned w (unsigned_abs x) place) (turned-below w (unsigned_abs x) place h (pattern-size w x p))
 
@@ -72,7 +75,8 @@ rol-operator w p = pattern-op rol_of w (λ x n. turned-pattern w (w - turns w n)
 
 pub ror-operator : (w : ℕ) → 0 < w → IsPatternOperator (Holds (patterns w)) any (ror_of w) (any_pattern w)
 ror-operator w p =
-    pattern-op ror_of w (λ x n. let below : turns w n < w = turns-below w n p in turned-pattern w (turns w n) x (omega arith))
+    pattern-op ror_of w (λ x n. let below : turns w n < w = turns-below w n p in turned-pattern w (turns w n) x
+    (omega arith))
 
 -- ---- SHR
 
@@ -93,12 +97,14 @@ shr-up w a x m n p h k =
     let second : unsigned_abs x / 2 ^ moved w m ≤ unsigned_abs x / 2 ^ moved w n =
     div-down (unsigned_abs x) (2 ^ moved w n) (2 ^ moved w m) (pow_pos (moved w n)) powers in
     pos-le (unsigned_abs a / 2 ^ moved w m) (unsigned_abs x / 2 ^ moved w n)
-    (joined (unsigned_abs a / 2 ^ moved w m) (unsigned_abs x / 2 ^ moved w m) (unsigned_abs x / 2 ^ moved w n) first second)
+    (joined (unsigned_abs a / 2 ^ moved w m) (unsigned_abs x / 2 ^ moved w m)
+    (unsigned_abs x / 2 ^ moved w n) first second)
   where
     joined : (a b c : ℕ) → a ≤ b → b ≤ c → a ≤ c
     joined a b c h k = omega arith
 
-pub cut-held-shr : (w : ℕ) (i j : Interval) → Contains (of_two (shr_of w) (patterns_in w i) j) same (cut_row shr_row w i j)
+pub cut-held-shr : (w : ℕ) (i j : Interval)
+    → Contains (of_two (shr_of w) (patterns_in w i) j) same (cut_row shr_row w i j)
 cut-held-shr w i j =
     held-where same (shr_of w) (shr_at w) (λ i. IsWithin i (patterns w)) (λ j. Unit {0}) at
     (patterns_in w i) j (meet-right i (patterns w)) tt
@@ -115,7 +121,8 @@ ArePatterns w i k = IsOrdered i × IsWithin i (patterns w) × IsWithin k (patter
 pub cut-larger-shr : (w : ℕ) (i j : Interval) → GrowsTwo (cut_row shr_row w) i j
 cut-larger-shr w i j k l h m =
     grows-where (shr_at w) (ArePatterns w) (λ j l. Unit {0}) at (patterns_in w i) j (patterns_in w k) l
-    (meet-ordered i (patterns w), meet-right i (patterns w), meet-right k (patterns w)) tt (meet-within i k (patterns w) h) m
+    (meet-ordered i (patterns w), meet-right i (patterns w), meet-right k (patterns w)) tt
+    (meet-within i k (patterns w) h) m
   where
     at : (a b c d e f g n : ℤ) → ArePatterns w (Span a b) (Span e f) → Unit {0} → e ≤ℤ a → b ≤ℤ f → g ≤ℤ c → d ≤ℤ n
         → IsWithin (shr_at w a b c d) (shr_at w e f g n)

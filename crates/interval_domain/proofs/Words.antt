@@ -25,7 +25,8 @@ two-back f r x y p q s e =
     to_z-of_z w128 r p ∙ e ∙ (λ n. f (to_z-of_z w128 x q n) (to_z-of_z w128 y s n))
 
 -- the same, kept in the limit of bounds
-pub kept-back : (op : ℤ → ℤ → ℤ) (r x y : ℤ) → Fits r → Fits x → Fits y → r ≡ kept (op (back x) (back y)) → back r ≡ kept (op x y)
+pub kept-back : (op : ℤ → ℤ → ℤ) (r x y : ℤ) → Fits r → Fits x → Fits y → r ≡ kept (op (back x) (back y))
+    → back r ≡ kept (op x y)
 kept-back op = two-back (λ x y. kept (op x y))
 
 -- what a function of bounds gives for two spans
@@ -42,4 +43,5 @@ pub pattern-back : (op : ℤ → ℤ → ℤ) (other : (a b c d : ℤ) → Inter
     → o ≡ other (back a) (back b) (back c) (back d) → r ≡ pattern_at op other a b c d
 pattern-back op other r o x a b c d v p q s t e f g =
     e ∙ (λ n. exact_or (back a) (back b) (back c) (back d) ((to_z-of_z w128 x v ∙ f) n) (g n))
-    ∙ (λ n. pattern_at op other (to_z-of_z w128 a p n) (to_z-of_z w128 b q n) (to_z-of_z w128 c s n) (to_z-of_z w128 d t n))
+    ∙ (λ n. pattern_at op other (to_z-of_z w128 a p n) (to_z-of_z w128 b q n) (to_z-of_z w128 c s n)
+    (to_z-of_z w128 d t n))

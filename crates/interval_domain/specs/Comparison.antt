@@ -1,4 +1,5 @@
--- Comparisons of intervals, and what an interval is cut to where a comparison is assumed true. Source: IEC 61131-3, comparison
+-- Comparisons of intervals, and what an interval is cut to where a comparison is assumed true. Source: IEC
+-- 61131-3, comparison
 -- functions; the cuts are those of interval analysis.
 use Rattle.std.specs.Prelude.{◌≡◌, Bool, true, false, not, IsTrue, ◌&&◌, ◌||◌, if◌then◌else◌, ℤ, pos, ◌+ℤ◌, ◌-ℤ◌, int_le, int_lt}
 use Rattle.std.specs.Int.{int_max, int_min}
@@ -54,7 +55,8 @@ flags_of op i j = record { yes = may_hold op i j; no = may_hold (opposite op) i 
 abbrev pub AreWithin : Flags → Flags → Type 0
 AreWithin f g = (IsTrue f.yes → IsTrue g.yes) × (IsTrue f.no → IsTrue g.no)
 
--- ---- cuts: what is left of [a, b] where the comparison with [c, d] is assumed true. `<>` drops an end that equals the other
+-- ---- cuts: what is left of [a, b] where the comparison with [c, d] is assumed true. `<>` drops an end that
+-- equals the other
 -- side where that is one number.
 
 -- without a number that is an end
@@ -72,7 +74,8 @@ cut_bounds NotEqual a b c d = if int_eq c d then without a b c else span a b
 abbrev pub cut_row : Compare → Interval → Interval → Interval
 cut_row op i j = strict (cut_bounds op) i j
 
--- the laws: no number for which the comparison may be true is lost, nothing is added, larger sides give no smaller interval
+-- the laws: no number for which the comparison may be true is lost, nothing is added, larger sides give no
+-- smaller interval
 pub record MeetsCutLaws (op : Compare) (own other out : Interval) : Type 0 where
   pub held : (x y : ℤ) → Holds own x → Holds other y → test_of op x y ≡ true → Holds out x
   pub within : IsWithin out own

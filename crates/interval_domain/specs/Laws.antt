@@ -1,4 +1,5 @@
--- The laws of the operators on intervals, of one shape for all of them. Source: interval analysis. An operator is told by the numbers that it
+-- The laws of the operators on intervals, of one shape for all of them. Source: interval analysis. An operator
+-- is told by the numbers that it
 -- gives for numbers of its operands; the code computes from bounds alone.
 use Rattle.std.specs.Prelude.{◌≡◌, ℤ}
 use Rattle.iec_tables.specs.declared.elem.Elem.{Elem}
@@ -28,7 +29,8 @@ fits t z = Holds (range_of t) z
 abbrev pub any : ℤ → Type 0
 any z = Unit {0}
 
--- how a result shows in the raw interval: kept in the limit of bounds, or as it is where no result is larger than an operand
+-- how a result shows in the raw interval: kept in the limit of bounds, or as it is where no result is larger
+-- than an operand
 abbrev pub same : ℤ → ℤ
 same z = z
 
@@ -41,10 +43,13 @@ whole i = i
 abbrev pub with_one : (row out_row : Interval → Interval) → Interval → Interval → Interval → Type 0
 with_one row out_row a raw out = (c : Interval) × IsWithin a c × (raw ≡ row c) × (out ≡ out_row c)
 
-abbrev pub with_two : (row out_row : Interval → Interval → Interval) → Interval → Interval → Interval → Interval → Type 0
-with_two row out_row a b raw out = (c : Interval) × (d : Interval) × IsWithin a c × IsWithin b d × (raw ≡ row c d) × (out ≡ out_row c d)
+abbrev pub with_two : (row out_row : Interval → Interval → Interval) → Interval → Interval → Interval → Interval
+    → Type 0
+with_two row out_row a b raw out =
+    (c : Interval) × (d : Interval) × IsWithin a c × IsWithin b d × (raw ≡ row c d) × (out ≡ out_row c d)
 
-abbrev pub with_three : (row out_row : Interval → Interval → Interval → Interval) → Interval → Interval → Interval → Interval → Interval → Type 0
+abbrev pub with_three : (row out_row : Interval → Interval → Interval → Interval) → Interval → Interval → Interval
+    → Interval → Interval → Type 0
 with_three row out_row a b c raw out = (d : Interval) × (e : Interval) × (f : Interval)
     × IsWithin a d × IsWithin b e × IsWithin c f × (raw ≡ row d e f) × (out ≡ out_row d e f)
 

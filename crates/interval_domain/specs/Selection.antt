@@ -1,4 +1,5 @@
--- The operators that choose among numbers, and conversions. Source: IEC 61131-3, selection functions and type conversions; a
+-- The operators that choose among numbers, and conversions. Source: IEC 61131-3, selection functions and type
+-- conversions; a
 -- conversion keeps the number, and a run faults where the type that it converts to doesn't have it.
 use Rattle.std.specs.Prelude.{Bool, not, ◌||◌, if◌then◌else◌, ℤ, pos}
 use Rattle.std.specs.Int.{int_max, int_min}
@@ -42,7 +43,8 @@ limit_row mn a mx = min_row (max_row a mn) mx
 abbrev pub given : Bool → Interval → Interval
 given test i = if test then i else Empty
 
--- SEL: the chosen ones joined, or empty where an operand is. The first may be chosen where G may be 0, the second where G may be something else.
+-- SEL: the chosen ones joined, or empty where an operand is. The first may be chosen where G may be 0, the
+-- second where G may be something else.
 abbrev pub sel_row : (g in0 in1 : Interval) → Interval
 sel_row g in0 in1 =
     given (not (is_empty g || is_empty in0 || is_empty in1))

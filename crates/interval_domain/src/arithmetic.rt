@@ -23,7 +23,8 @@ pub fn mul(t: Elem, a: Interval, b: Interval) -> Out
     typed(t, mul_bounds(a, b))
 }
 
-/// The quotient of two intervals, truncated towards 0, over all divisors but 0, for the type of the expression.
+/// The quotient of two intervals, truncated towards 0, over all divisors but 0, for the type of the
+/// expression.
 pub fn div(t: Elem, a: Interval, b: Interval) -> Out
     ensures raw { result.raw ≡ arithmetic.div_raw a b }
     ensures result { result.result ≡ rows.typed t (arithmetic.div_raw a b) }

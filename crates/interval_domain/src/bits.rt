@@ -11,8 +11,8 @@ use crate::operators::{Out, plain};
 use crate::widths::{all_ones, patterns_in};
 use iec_tables::elem::Elem;
 
-/// The patterns with the bits that both have. Of each operand only what is patterns of the type counts: for a bit string, all that is
-/// in its range.
+/// The patterns with the bits that both have. Of each operand only what is patterns of the type
+/// counts: for a bit string, all that is in its range.
 pub fn and(t: Elem, a: Interval, b: Interval) -> Out
     ensures raw { result.raw ≡ rows.and_row (rows.patterns_in (width_of t) a)
         (rows.patterns_in (width_of t) b) }
@@ -31,8 +31,8 @@ pub fn and(t: Elem, a: Interval, b: Interval) -> Out
     plain(and_bounds(patterns_in(t, a), patterns_in(t, b)))
 }
 
-/// The patterns with the bits that either has. Of each operand only what is patterns of the type counts: for a bit string, all that is
-/// in its range.
+/// The patterns with the bits that either has. Of each operand only what is patterns of the type
+/// counts: for a bit string, all that is in its range.
 pub fn or(t: Elem, a: Interval, b: Interval) -> Out
     ensures raw { result.raw ≡ rows.or_row (rows.patterns_in (width_of t) a)
         (rows.patterns_in (width_of t) b) }
@@ -51,8 +51,8 @@ pub fn or(t: Elem, a: Interval, b: Interval) -> Out
     plain(or_bounds(patterns_in(t, a), patterns_in(t, b)))
 }
 
-/// The patterns with the bits that one of both has. Of each operand only what is patterns of the type counts: for a bit string, all that is
-/// in its range.
+/// The patterns with the bits that one of both has. Of each operand only what is patterns of the
+/// type counts: for a bit string, all that is in its range.
 pub fn xor(t: Elem, a: Interval, b: Interval) -> Out
     ensures raw { result.raw ≡ rows.xor_row (rows.patterns_in (width_of t) a)
         (rows.patterns_in (width_of t) b) }
@@ -71,8 +71,8 @@ pub fn xor(t: Elem, a: Interval, b: Interval) -> Out
     plain(xor_bounds(patterns_in(t, a), patterns_in(t, b)))
 }
 
-/// The patterns with each bit turned round. Of the operand only what is patterns of the type counts: for a bit string, all that is in
-/// its range.
+/// The patterns with each bit turned round. Of the operand only what is patterns of the type
+/// counts: for a bit string, all that is in its range.
 pub fn not(t: Elem, a: Interval) -> Out
     ensures raw { result.raw ≡ rows.not_row t (rows.patterns_in (width_of t) a) }
     ensures result { result.result ≡ rows.not_row t (rows.patterns_in (width_of t) a) }
@@ -217,7 +217,8 @@ fn xor_of(x: i128, y: i128) -> i128
     (x as u128 ^ y as u128) as i128
 }
 
-/// The least number whose digits in base 2 are all 1 that is not below a number from 0 on: the upper bound of OR and XOR.
+/// The least number whose digits in base 2 are all 1 that is not below a number from 0 on: the
+/// upper bound of OR and XOR.
 pub fn ones_above(z: i128) -> i128
     requires { pos 0 ≤ℤ z }
     ensures value { result ≡ rows.ones_above z }

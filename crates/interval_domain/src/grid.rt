@@ -9,6 +9,7 @@ ghost use Rattle.interval_domain.specs.Grid as grids;
 
 use crate::interval::Interval;
 use crate::operators::{kept, kept_difference, kept_sum};
+use crate::widths::TYPES;
 use iec_tables::elem::{Elem, high, low};
 use station_ports::outside::NoMemory;
 use std::alloc::{AllocError, Global};
@@ -17,24 +18,8 @@ use std::marker::Model;
 /// The most numbers of a grid besides the bounds of types.
 const LIMIT: usize = 1024;
 
-const TYPES: [Elem; 14] = [
-    Elem::Sint,
-    Elem::Int,
-    Elem::Dint,
-    Elem::Lint,
-    Elem::Usint,
-    Elem::Uint,
-    Elem::Udint,
-    Elem::Ulint,
-    Elem::Bool,
-    Elem::Byte,
-    Elem::Word,
-    Elem::Dword,
-    Elem::Lword,
-    Elem::Time,
-];
-
-/// A rising list of numbers, the least and the greatest number of all types among them. To contracts it is that list.
+/// A rising list of numbers, the least and the greatest number of all types among them. To
+/// contracts it is that list.
 #[derive(Drop)]
 pub struct Grid {
     numbers: Vec<i128>,
@@ -52,8 +37,9 @@ impl Model for Grid {
 }
 
 impl Grid {
-    /// The grid for these literals, in time of sorting them: the bounds of all types, and at most 1,024 others of -1 and of
-    /// each literal with its two neighbours, which are those of least size, the negative first of two.
+    /// The grid for these literals, in time of sorting them: the bounds of all types, and at most
+    /// 1,024 others of -1 and of each literal with its two neighbours, which are those of least
+    /// size, the negative first of two.
     pub fn of(alloc: Global, literals: &[i128]) -> Result<Grid, NoMemory>
         ensures { IfOk result (λ grid. grids.IsGrid literals.now grid) }
     {
@@ -61,8 +47,8 @@ impl Grid {
         Ok(Grid { numbers })
     }
 
-    /// Moves each bound outward to the nearest number of the grid. The empty interval stays, and so does a bound beyond the
-    /// numbers of all types.
+    /// Moves each bound outward to the nearest number of the grid. The empty interval stays, and so
+    /// does a bound beyond the numbers of all types.
     pub fn round(&self, i: Interval) -> Interval
         ensures value { result ≡ grids.rounded self.now i }
         ensures wider { intervals.IsWithin i result }

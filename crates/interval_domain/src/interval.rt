@@ -4,7 +4,8 @@ ghost use Rattle.interval_domain.specs.Interval as intervals;
 
 use std::marker::Model;
 
-/// All whole numbers from a low bound to a high one, or none. To contracts it is the empty interval or a span of two bounds.
+/// All whole numbers from a low bound to a high one, or none. To contracts it is the empty interval
+/// or a span of two bounds.
 #[derive(Clone, Copy, Debug, PartialEq, Eq)]
 pub struct Interval {
     low: i128,
@@ -105,7 +106,8 @@ impl Interval {
     }
 }
 
-// What a function gives for the bounds of an interval: empty where it is. Arguments behind the interval go before the bounds.
+// What a function gives for the bounds of an interval: empty where it is. Arguments behind the
+// interval go before the bounds.
 macro_rules! strict_one {
     ($at:ident, $a:expr $(, $more:expr)*) => {
         match $a.bounds() {

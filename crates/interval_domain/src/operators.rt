@@ -8,8 +8,9 @@ use crate::interval::{Interval, common, strict};
 use iec_tables::elem::{Elem, high, low};
 use iec_tables::kind::Kind;
 
-/// What an operator gives: the result, within the type, and the raw one, which alarms look at. Where results may leave the type, the raw one is the least
-/// interval of all whole-number results; for the other operators it is the result.
+/// What an operator gives: the result, within the type, and the raw one, which alarms look at.
+/// Where results may leave the type, the raw one is the least interval of all whole-number results;
+/// for the other operators it is the result.
 #[derive(Clone, Copy, Debug, PartialEq, Eq)]
 pub struct Out {
     pub raw: Interval,
@@ -52,8 +53,8 @@ pub fn sub(t: Elem, a: Interval, b: Interval) -> Out
     typed(t, sub_bounds(a, b))
 }
 
-/// Whether a value raises an alarm of that kind: for a zero divisor where the divisor may be 0, whatever is allowed, else
-/// where the value may leave what is allowed.
+/// Whether a value raises an alarm of that kind: for a zero divisor where the divisor may be 0,
+/// whatever is allowed, else where the value may leave what is allowed.
 pub fn alarm(kind: Kind, value: Interval, allowed: Interval) -> bool
     ensures { result ≡ rows.is_alarmed kind value allowed }
 {

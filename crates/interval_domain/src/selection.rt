@@ -45,8 +45,8 @@ pub fn limit(_t: Elem, mn: Interval, a: Interval, mx: Interval) -> Out
     plain(min_bounds(max_bounds(a, mn), mx))
 }
 
-/// The second interval where the first may be FALSE, which is 0, joined with the third where it may be something else. An empty operand gives the empty
-/// interval, also one that is not chosen.
+/// The second interval where the first may be FALSE, which is 0, joined with the third where it may
+/// be something else. An empty operand gives the empty interval, also one that is not chosen.
 pub fn sel(_t: Elem, g: Interval, in0: Interval, in1: Interval) -> Out
     ensures raw { result.raw ≡ selection.sel_row g in0 in1 }
     ensures result { result.result ≡ selection.sel_row g in0 in1 }
@@ -58,7 +58,8 @@ pub fn sel(_t: Elem, g: Interval, in0: Interval, in1: Interval) -> Out
     plain(chosen(g, in0, in1))
 }
 
-/// The numbers of the interval that the second type has. The raw result is the interval: the least that holds all of them.
+/// The numbers of the interval that the second type has. The raw result is the interval: the least
+/// that holds all of them.
 pub fn convert(_from: Elem, to: Elem, a: Interval) -> Out
     ensures raw { result.raw ≡ a }
     ensures result { result.result ≡ rows.typed to a }

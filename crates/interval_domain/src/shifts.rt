@@ -12,8 +12,8 @@ use crate::operators::{Out, plain};
 use crate::widths::{patterns, patterns_in, power, width};
 use iec_tables::elem::Elem;
 
-/// The patterns moved up by the counts. Of the first operand only what is patterns of the type counts: for a bit string, all that
-/// is in its range.
+/// The patterns moved up by the counts. Of the first operand only what is patterns of the type
+/// counts: for a bit string, all that is in its range.
 pub fn shl(t: Elem, a: Interval, n: Interval) -> Out
     ensures raw { result.raw ≡ rows.shl_row (types.width_of t) (bits.patterns_in (types.width_of t) a) n }
     ensures result { result.result ≡ rows.shl_row (types.width_of t)
@@ -28,8 +28,8 @@ pub fn shl(t: Elem, a: Interval, n: Interval) -> Out
     plain(shl_bounds(width(t), patterns_in(t, a), n))
 }
 
-/// The patterns moved down by the counts. Of the first operand only what is patterns of the type counts: for a bit string, all that
-/// is in its range.
+/// The patterns moved down by the counts. Of the first operand only what is patterns of the type
+/// counts: for a bit string, all that is in its range.
 pub fn shr(t: Elem, a: Interval, n: Interval) -> Out
     ensures raw { result.raw ≡ rows.shr_row (types.width_of t) (bits.patterns_in (types.width_of t) a) n }
     ensures result { result.result ≡ rows.shr_row (types.width_of t)
@@ -44,8 +44,8 @@ pub fn shr(t: Elem, a: Interval, n: Interval) -> Out
     plain(shr_bounds(width(t), patterns_in(t, a), n))
 }
 
-/// The patterns turned up by the counts. Of the first operand only what is patterns of the type counts: for a bit string, all that
-/// is in its range.
+/// The patterns turned up by the counts. Of the first operand only what is patterns of the type
+/// counts: for a bit string, all that is in its range.
 pub fn rol(t: Elem, a: Interval, n: Interval) -> Out
     ensures raw { result.raw ≡ rows.rol_row (types.width_of t) (bits.patterns_in (types.width_of t) a) n }
     ensures result { result.result ≡ rows.rol_row (types.width_of t)
@@ -60,8 +60,8 @@ pub fn rol(t: Elem, a: Interval, n: Interval) -> Out
     plain(rol_bounds(width(t), patterns_in(t, a), n))
 }
 
-/// The patterns turned down by the counts. Of the first operand only what is patterns of the type counts: for a bit string, all that
-/// is in its range.
+/// The patterns turned down by the counts. Of the first operand only what is patterns of the type
+/// counts: for a bit string, all that is in its range.
 pub fn ror(t: Elem, a: Interval, n: Interval) -> Out
     ensures raw { result.raw ≡ rows.ror_row (types.width_of t) (bits.patterns_in (types.width_of t) a) n }
     ensures result { result.result ≡ rows.ror_row (types.width_of t)

@@ -15,14 +15,17 @@ returns-clause-result c = c.typed.ensures.result ∙ ap (λ (i : Interval). type
 
 pub returns-clause-sound : goal.returns-clause-sound
 returns-clause-sound c =
-    sound-typed (of_one size_of c.args.a) c.args.t (abs_raw c.args.a) _ _ (returns-clause-raw c) (returns-clause-result c)
+    sound-typed (of_one size_of c.args.a) c.args.t (abs_raw c.args.a) _ _ (returns-clause-raw c)
+    (returns-clause-result c)
     (held-abs c.args.a)
 
 pub returns-clause-best : goal.returns-clause-best
 returns-clause-best c =
-    best (of_one size_of c.args.a) kept (abs_raw c.args.a) _ (returns-clause-raw c) (least-abs c.args.a c.abs_bounds.ensures.ordered)
+    best (of_one size_of c.args.a) kept (abs_raw c.args.a) _ (returns-clause-raw c)
+    (least-abs c.args.a c.abs_bounds.ensures.ordered)
 
 pub returns-clause-monotone : goal.returns-clause-monotone
 returns-clause-monotone c =
-    grows-one abs_raw (typed c.args.t) (typed-grows c.args.t) c.args.a _ _ (returns-clause-raw c) (returns-clause-result c)
+    grows-one abs_raw (typed c.args.t) (typed-grows c.args.t) c.args.a _ _ (returns-clause-raw c)
+    (returns-clause-result c)
     (larger-abs c.args.a c.abs_bounds.ensures.ordered)

@@ -15,7 +15,8 @@ returns-clause-result c = c.typed.ensures.result ∙ ap (λ (i : Interval). type
 
 pub returns-clause-sound : goal.returns-clause-sound
 returns-clause-sound c =
-    sound-typed (of_division quotient_of c.args.a c.args.b) c.args.t (div_raw c.args.a c.args.b) _ _ (returns-clause-raw c) (returns-clause-result c)
+    sound-typed (of_division quotient_of c.args.a c.args.b) c.args.t (div_raw c.args.a c.args.b) _ _
+    (returns-clause-raw c) (returns-clause-result c)
     (held-div c.args.a c.args.b)
 
 pub returns-clause-best : goal.returns-clause-best
@@ -25,5 +26,6 @@ returns-clause-best c =
 
 pub returns-clause-monotone : goal.returns-clause-monotone
 returns-clause-monotone c =
-    grows-two div_raw (typed c.args.t) (typed-grows c.args.t) c.args.a c.args.b _ _ (returns-clause-raw c) (returns-clause-result c)
+    grows-two div_raw (typed c.args.t) (typed-grows c.args.t) c.args.a c.args.b _ _ (returns-clause-raw c)
+    (returns-clause-result c)
     (larger-div c.args.a c.args.b c.div_bounds.ensures.ordered.0)

@@ -13,4 +13,5 @@ returns c =
     let turned = one-back (λ z. kept (negation_of z)) _ c.args.a (search rules) c.ranges.a c.kept_negation.ensures in
     let upper = one-back kept _ c.args.b (search rules) c.ranges.b c.kept.ensures in
     let whole : FitsSigned w128 c.max.result = search rules in
-    to_z-of_z w128 c.max.result whole ∙ c.max.ensures.value ∙ (λ n. int_max (turned n) (upper n)) ∙ greatest_size-is c.args.a c.args.b
+    to_z-of_z w128 c.max.result whole ∙ c.max.ensures.value ∙ (λ n. int_max (turned n) (upper n))
+    ∙ greatest_size-is c.args.a c.args.b

@@ -15,4 +15,5 @@ returns c =
     let greater = to_z-of_z w128 c.max.result fits ∙ c.max.ensures.value
     ∙ (λ n. int_max (to_z-of_z w128 c.args.a c.ranges.a n) (turned n)) in
     let whole : FitsSigned w128 c.max-2.result = search rules in
-    to_z-of_z w128 c.max-2.result whole ∙ c.max-2.ensures.value ∙ (λ n. int_max (greater n) (pos 0)) ∙ least_size-is c.args.a c.args.b (search rules)
+    to_z-of_z w128 c.max-2.result whole ∙ c.max-2.ensures.value ∙ (λ n. int_max (greater n) (pos 0))
+    ∙ least_size-is c.args.a c.args.b (search rules)

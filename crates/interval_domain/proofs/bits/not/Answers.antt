@@ -22,10 +22,12 @@ returns-clause-result c =
 
 pub returns-clause-sound : goal.returns-clause-sound
 returns-clause-sound c =
-    sound-plain (of_one (not_of c.args.t) (patterns_in (width_of c.args.t) c.args.a)) (cut_not_row c.args.t c.args.a) _ _
+    sound-plain (of_one (not_of c.args.t) (patterns_in (width_of c.args.t) c.args.a))
+    (cut_not_row c.args.t c.args.a) _ _
     (returns-clause-raw c) (returns-clause-result c) (cut-held-not c.args.t c.args.a)
 
 pub returns-clause-monotone : goal.returns-clause-monotone
 returns-clause-monotone c =
-    grows-one (cut_not_row c.args.t) (λ i. i) whole-grows c.args.a _ _ (returns-clause-raw c) (returns-clause-result c)
+    grows-one (cut_not_row c.args.t) (λ i. i) whole-grows c.args.a _ _ (returns-clause-raw c)
+    (returns-clause-result c)
     (cut-larger-not c.args.t c.args.a)

@@ -9,4 +9,5 @@ pub ordered-requires : goal.ordered-requires
 ordered-requires c =
     let low = kept-back sum_of _ c.args.a c.args.c (search rules) c.ranges.a c.ranges.c c.kept_sum.ensures in
     let high = kept-back sum_of _ c.args.b c.args.d (search rules) c.ranges.b c.ranges.d c.kept_sum-2.ensures in
-    le-by _ _ _ _ low high (kept-le (c.args.a +ℤ c.args.c) (c.args.b +ℤ c.args.d) (omega (arith, ints, c.requires.left, c.requires.right)))
+    le-by _ _ _ _ low high (kept-le (c.args.a +ℤ c.args.c) (c.args.b +ℤ c.args.d)
+    (omega (arith, ints, c.requires.left, c.requires.right)))

@@ -14,8 +14,10 @@ returns-clause-result c = c.typed.ensures.result ∙ ap (λ (i : Interval). type
 
 pub returns-clause-sound : goal.returns-clause-sound
 returns-clause-sound c =
-    sound-typed (of_two difference_of c.args.a c.args.b) c.args.t (sub_raw c.args.a c.args.b) _ _ (returns-clause-raw c) (returns-clause-result c)
-    (λ z (x, y, h, k, e). subst (λ (v : ℤ). Holds (sub_raw c.args.a c.args.b) (kept v)) e (held-sub c.args.a c.args.b x y h k))
+    sound-typed (of_two difference_of c.args.a c.args.b) c.args.t (sub_raw c.args.a c.args.b) _ _
+    (returns-clause-raw c) (returns-clause-result c)
+    (λ z (x, y, h, k, e). subst (λ (v : ℤ). Holds (sub_raw c.args.a c.args.b) (kept v)) e
+    (held-sub c.args.a c.args.b x y h k))
 
 pub returns-clause-best : goal.returns-clause-best
 returns-clause-best c =
@@ -24,5 +26,6 @@ returns-clause-best c =
 
 pub returns-clause-monotone : goal.returns-clause-monotone
 returns-clause-monotone c =
-    grows-two sub_raw (typed c.args.t) (typed-grows c.args.t) c.args.a c.args.b _ _ (returns-clause-raw c) (returns-clause-result c)
+    grows-two sub_raw (typed c.args.t) (typed-grows c.args.t) c.args.a c.args.b _ _ (returns-clause-raw c)
+    (returns-clause-result c)
     (larger-sub c.args.a c.args.b)

@@ -21,5 +21,6 @@ returns-clause-best c =
 
 pub returns-clause-monotone : goal.returns-clause-monotone
 returns-clause-monotone c =
-    grows-one whole (typed c.args.to) (typed-grows c.args.to) c.args.a _ _ (returns-clause-raw c) (returns-clause-result c)
+    grows-one whole (typed c.args.to) (typed-grows c.args.to) c.args.a _ _ (returns-clause-raw c)
+    (returns-clause-result c)
     (λ k h. h)

@@ -7,10 +7,12 @@ use Rattle.interval_domain.proofs.Shapes.{sound-plain, grows-three}
 use Rattle.interval_domain.proofs.selection.limit.Goals as goal
 
 pub returns-clause-raw : goal.returns-clause-raw
-returns-clause-raw c = c.plain.ensures.raw ∙ c.min_bounds.ensures ∙ ap (λ (i : Interval). min_row i c.args.mx) c.max_bounds.ensures
+returns-clause-raw c =
+    c.plain.ensures.raw ∙ c.min_bounds.ensures ∙ ap (λ (i : Interval). min_row i c.args.mx) c.max_bounds.ensures
 
 pub returns-clause-result : goal.returns-clause-result
-returns-clause-result c = c.plain.ensures.result ∙ c.min_bounds.ensures ∙ ap (λ (i : Interval). min_row i c.args.mx) c.max_bounds.ensures
+returns-clause-result c =
+    c.plain.ensures.result ∙ c.min_bounds.ensures ∙ ap (λ (i : Interval). min_row i c.args.mx) c.max_bounds.ensures
 
 pub returns-clause-sound : goal.returns-clause-sound
 returns-clause-sound c =

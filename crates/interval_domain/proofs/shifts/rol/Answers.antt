@@ -8,19 +8,26 @@ use Rattle.interval_domain.proofs.shifts.rol.Goals as goal
 
 pub returns-clause-raw : goal.returns-clause-raw
 returns-clause-raw c =
-    c.plain.ensures.raw ∙ c.rol_bounds.ensures.value ∙ ap (λ (w : ℕ). rol_row w c.patterns_in.result c.args.n) c.width.ensures.value
+    c.plain.ensures.raw ∙ c.rol_bounds.ensures.value
+    ∙ ap (λ (w : ℕ). rol_row w c.patterns_in.result c.args.n) c.width.ensures.value
     ∙ ap (λ (i : Interval). rol_row (width_of c.args.t) i c.args.n) c.patterns_in.ensures.value
 
 pub returns-clause-result : goal.returns-clause-result
 returns-clause-result c =
-    c.plain.ensures.result ∙ c.rol_bounds.ensures.value ∙ ap (λ (w : ℕ). rol_row w c.patterns_in.result c.args.n) c.width.ensures.value
+    c.plain.ensures.result ∙ c.rol_bounds.ensures.value
+    ∙ ap (λ (w : ℕ). rol_row w c.patterns_in.result c.args.n) c.width.ensures.value
     ∙ ap (λ (i : Interval). rol_row (width_of c.args.t) i c.args.n) c.patterns_in.ensures.value
 
 pub returns-clause-sound : goal.returns-clause-sound
 returns-clause-sound c =
-    moved-sound rol_of (width_of c.args.t) (rol-operator (width_of c.args.t) (subst (λ (w : ℕ). 0 < w) c.width.ensures.value c.width.ensures.some)) c.args.a c.args.n _ _ (returns-clause-raw c) (returns-clause-result c)
+    moved-sound rol_of (width_of c.args.t) (rol-operator (width_of c.args.t)
+    (subst (λ (w : ℕ). 0 < w) c.width.ensures.value c.width.ensures.some)) c.args.a c.args.n _ _
+    (returns-clause-raw c) (returns-clause-result c)
 
 pub returns-clause-monotone : goal.returns-clause-monotone
 returns-clause-monotone c =
-    moved-monotone rol_of (width_of c.args.t) (rol-operator (width_of c.args.t) (subst (λ (w : ℕ). 0 < w) c.width.ensures.value c.width.ensures.some)) c.args.a c.args.n _ _ (returns-clause-raw c) (returns-clause-result c)
+    moved-monotone rol_of (width_of c.args.t)
+    (rol-operator (width_of c.args.t)
+    (subst (λ (w : ℕ). 0 < w) c.width.ensures.value c.width.ensures.some)) c.args.a c.args.n _ _
+    (returns-clause-raw c) (returns-clause-result c)
     c.rol_bounds.ensures.ordered
