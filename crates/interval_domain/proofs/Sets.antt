@@ -72,6 +72,11 @@ ranks-set xs made ys zs e p s f =
     (dedup-set nat_cmp_total nat_eq_equiv (λ x y. sym (unsigned_tied x y)) eqb-true xs ys
     (subst (λ (l : List ℕ). IsPermutation l ys) e p) s)
 
+-- what is pushed is mapped
+pub mapped-more : (f : ℕ → ℤ) (xs ys zs : List ℤ) (ranks : List ℕ) (i d : ℕ) (z : ℤ) → i < length ranks
+    → ys ≡ xs ++ map f (take i ranks) → zs ≡ ys ++ z ∷ [] → z ≡ f (get_or ranks i d) → zs ≡ xs ++ map f (take (i + 1) ranks)
+mapped-more f xs ys zs ranks i d z l e g h = grind (arith, common_steps)
+
 -- ---- one rank, or none of a bound of a type
 
 alone-ranks : (b : Bool) (z : ℤ) → b ≡ true → map rank_of (cond b (z ∷ []) []) ≡ rank_of z ∷ []

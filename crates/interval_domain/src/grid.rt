@@ -1,8 +1,8 @@
 // The grid to whose numbers the bounds of intervals are rounded.
-ghost use Rattle.std.specs.Prelude.{◌≡◌, IfOk, OnOk, ◌++◌, ◌∷◌, [], take, map};
+ghost use Rattle.std.specs.Prelude.{◌≡◌, ◌||◌, IfOk, OnOk, ◌++◌, ◌∷◌, [], take, map};
 ghost use Rattle.std.specs.List.{flat_map, list_any};
 ghost use Rattle.std.specs.List.Sorted.{IsStrictlySortedBy};
-ghost use Rattle.std.specs.Ordering.{int_cmp};
+ghost use Rattle.std.specs.Ordering.{int_cmp, int_eq};
 ghost use Rattle.interval_domain.specs.Interval as intervals;
 ghost use Rattle.interval_domain.specs.Operators as rows;
 ghost use Rattle.interval_domain.specs.Grid as grids;
@@ -164,7 +164,13 @@ fn is_type_bound(number: i128) -> bool
 fn is_bound_of(number: i128, t: Elem) -> bool
     ensures { result ≡ grids.is_bound_of number t }
 {
-    low(t) == number || high(t) == number
+    is_either(number, low(t), high(t))
+}
+
+fn is_either(number: i128, first: i128, second: i128) -> bool
+    ensures { result ≡ (int_eq first number || int_eq second number) }
+{
+    first == number || second == number
 }
 
 fn rank_of(number: i128) -> u128
