@@ -1,5 +1,5 @@
--- The row of all operators on patterns: exact where both operands are single, else what another function gives
--- for their bounds.
+-- The row of all operators on patterns: exact where both operands are single, else what another function
+-- gives for their bounds.
 use Rattle.std.proofs.Common.{◌≡◌, inl, inr, Bool, true, false, ◌&&◌, ℤ, ◌≤ℤ◌, arith, sym, ◌∙◌}
 use Rattle.std.specs.Ordering.{int_eq}
 use Rattle.std.proofs.lemmas.Bool.{cases_Bool}
@@ -11,9 +11,8 @@ use Rattle.interval_domain.proofs.Bounds.{ordered-low, ordered-high}
 use Rattle.interval_domain.proofs.Orders.{eq-is, eq-yes, and-is, through}
 use Rattle.interval_domain.proofs.Strict.{Contains, held-where, grows-where}
 
--- What the other function gives for bounds holds each result of numbers between them, and grows with them. Left
--- and right operands are of the
--- numbers of P and Q.
+-- What the other function gives for bounds holds each result of numbers between them, and grows with them.
+-- Left and right operands are of the numbers of P and Q.
 pub record IsPatternOperator (P Q : ℤ → Type 0) (op : ℤ → ℤ → ℤ) (other : (a b c d : ℤ) → Interval) : Type 0 where
   pub held : (a b c d x y : ℤ) → P x → Q y → a ≤ℤ x → x ≤ℤ b → c ≤ℤ y → y ≤ℤ d → Holds (other a b c d) (op x y)
   pub grows : (a b c d e f g n : ℤ) → P b → Q d → e ≤ℤ a → b ≤ℤ f → g ≤ℤ c → d ≤ℤ n

@@ -1,6 +1,5 @@
--- What holds of an operator on intervals, from what holds of the results that it gives for bounds: once for all
--- operators that are empty
--- where an operand is.
+-- What holds of an operator on intervals, from what holds of the results that it gives for bounds: once for
+-- all operators that are empty where an operand is.
 use Rattle.std.proofs.Common.{ℤ, ◌≤ℤ◌, subst}
 use Rattle.interval_domain.specs.Interval.{Interval, Empty, Span, Holds, IsWithin, IsOrdered, strict_one, strict}
 use Rattle.interval_domain.specs.Laws.{of_one, of_two, of_division}

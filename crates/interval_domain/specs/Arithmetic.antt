@@ -1,8 +1,7 @@
--- The arithmetic operators: on numbers, as a run computes them, and on intervals. A run faults where a divisor
--- is 0 and where a
--- result of `+ - * /`, unary `-` or ABS leaves the type. Source: IEC 61131-3, arithmetic operators and
--- functions; `/` truncates
--- towards 0. The code computes in 128 bits; here numbers have no limit.
+-- The arithmetic operators: on numbers, as a run computes them, and on intervals. A run faults where a
+-- divisor is 0 and where a result of `+ - * /`, unary `-` or ABS leaves the type. Source: IEC 61131-3,
+-- arithmetic operators and functions; `/` truncates towards 0. The code computes in 128 bits; here numbers
+-- have no limit.
 use Rattle.std.specs.Prelude.{◌≡◌, ℕ, max, nat_eq, if◌then◌else◌, ℤ, pos, negsuc, ◌-ℤ◌, ◌*ℤ◌, neg_ℤ, int_lt, unsigned_abs, int_div}
 use Rattle.std.specs.Int.{int_max, int_min}
 use Rattle.interval_domain.specs.Interval.{Interval, Empty, Span, span, strict_one, strict, hull}

@@ -1,8 +1,7 @@
 -- The operators on bit strings, BOOL among them, which are read as unsigned numbers. Source: IEC 61131-3,
--- bitwise Boolean
--- functions; the intervals are this profile's choice. The code works on machine words; here patterns are
--- numbers of any size.
--- An operand is cut to the patterns of the type first: of a bit string's range nothing is lost by that.
+-- bitwise Boolean functions; the intervals are this profile's choice. The code works on machine words; here
+-- patterns are numbers of any size. An operand is cut to the patterns of the type first: of a bit string's
+-- range nothing is lost by that.
 use Rattle.std.specs.Prelude.{◌≡◌, ℕ, zero, suc, ◌-◌, ◌/◌, ◌^◌, ◌&&◌, nat_eq, if◌then◌else◌, ℤ, pos, ◌-ℤ◌, ◌≤ℤ◌, bit_and, bit_or, bit_xor, unsigned_abs}
 use Rattle.std.specs.Int.{int_max, int_min}
 use Rattle.std.specs.Ordering.{int_eq}
@@ -51,8 +50,8 @@ not_of t x = all_ones t -ℤ x
 abbrev pub exact_or : (a b c d exact : ℤ) → Interval → Interval
 exact_or a b c d exact other = if int_eq a b && int_eq c d then Span exact exact else other
 
--- the row of every operator on patterns: exact where both operands are single, else what another function gives
--- for their bounds
+-- the row of every operator on patterns: exact where both operands are single, else what another function
+-- gives for their bounds
 abbrev pub pattern_at : (op : ℤ → ℤ → ℤ) → (other : (a b c d : ℤ) → Interval) → (a b c d : ℤ) → Interval
 pattern_at op other a b c d = exact_or a b c d (op a c) (other a b c d)
 

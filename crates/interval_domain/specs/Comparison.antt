@@ -1,6 +1,5 @@
 -- Comparisons of intervals, and what an interval is cut to where a comparison is assumed true. Source: IEC
--- 61131-3, comparison
--- functions; the cuts are those of interval analysis.
+-- 61131-3, comparison functions; the cuts are those of interval analysis.
 use Rattle.std.specs.Prelude.{◌≡◌, Bool, true, false, not, IsTrue, ◌&&◌, ◌||◌, if◌then◌else◌, ℤ, pos, ◌+ℤ◌, ◌-ℤ◌, int_le, int_lt}
 use Rattle.std.specs.Int.{int_max, int_min}
 use Rattle.std.specs.Ordering.{int_eq}
@@ -55,9 +54,8 @@ flags_of op i j = record { yes = may_hold op i j; no = may_hold (opposite op) i 
 abbrev pub AreWithin : Flags → Flags → Type 0
 AreWithin f g = (IsTrue f.yes → IsTrue g.yes) × (IsTrue f.no → IsTrue g.no)
 
--- ---- cuts: what is left of [a, b] where the comparison with [c, d] is assumed true. `<>` drops an end that
--- equals the other
--- side where that is one number.
+-- ---- cuts: what is left of [a, b] where the comparison with [c, d] is assumed true. `<>` drops an end
+-- that equals the other side where that is one number.
 
 -- without a number that is an end
 abbrev pub without : (a b number : ℤ) → Interval

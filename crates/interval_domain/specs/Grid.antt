@@ -1,6 +1,5 @@
--- The grid to whose numbers bounds are rounded. This profile's own. The code searches a rising list by halves,
--- and sorts
--- ranks; here numbers are filtered, and sorted lists are told by their members.
+-- The grid to whose numbers bounds are rounded. This profile's own. The code searches a rising list by
+-- halves, and sorts ranks; here numbers are filtered, and sorted lists are told by their members.
 use Rattle.std.specs.Prelude.{◌≡◌, ℕ, ◌+◌, ◌*◌, ◌/◌, ◌%◌, Bool, not, nat_eq, if◌then◌else◌, List, [], ◌∷◌, ◌++◌, map, take, ℤ, pos, negsuc, int_le, ◌||◌}
 use Rattle.std.specs.List.{filter, flat_map, list_any, Contains}
 use Rattle.std.specs.Ordering.{nat_cmp, int_cmp, int_eq}

@@ -1,6 +1,5 @@
--- Intervals of whole numbers: the closed intervals of interval analysis, with one that is empty. The code holds
--- two bounds of
--- 128 bits, with 1 and 0 for the empty one; here bounds have no limit.
+-- Intervals of whole numbers: the closed intervals of interval analysis, with one that is empty. The code
+-- holds two bounds of 128 bits, with 1 and 0 for the empty one; here bounds have no limit.
 use Rattle.std.specs.Prelude.{Bool, true, false, ◌&&◌, if◌then◌else◌, ℤ, pos, ◌≤ℤ◌, int_le}
 use Rattle.std.specs.Int.{int_max, int_min}
 

@@ -1,6 +1,6 @@
--- The laws of the operators on intervals, of one shape for all of them. Source: interval analysis. An operator
--- is told by the numbers that it
--- gives for numbers of its operands; the code computes from bounds alone.
+-- The laws of the operators on intervals, of one shape for all of them. Source: interval analysis. An
+-- operator is told by the numbers that it gives for numbers of its operands; the code computes from bounds
+-- alone.
 use Rattle.std.specs.Prelude.{◌≡◌, ℤ}
 use Rattle.iec_tables.specs.declared.elem.Elem.{Elem}
 use Rattle.interval_domain.specs.Interval.{Interval, Holds, IsWithin}
@@ -22,7 +22,8 @@ of_division op a b z = (x : ℤ) × (y : ℤ) × Holds a x × Holds b y × IsDiv
 abbrev pub of_three : (ℤ → ℤ → ℤ → ℤ) → Interval → Interval → Interval → ℤ → Type 0
 of_three op a b c z = (w : ℤ) × (x : ℤ) × (y : ℤ) × Holds a w × Holds b x × Holds c y × (op w x y ≡ z)
 
--- the results of runs without a fault: those that the type has, or all of them where the operator never leaves it
+-- the results of runs without a fault: those that the type has, or all of them where the operator never
+-- leaves it
 abbrev pub fits : Elem → ℤ → Type 0
 fits t z = Holds (range_of t) z
 

@@ -1,6 +1,6 @@
 -- Operators on intervals, after interval analysis: the raw result is the least interval of all whole-number
--- results, the
--- result its meet with the range of the type. The code computes in 128 bits; here numbers have no limit.
+-- results, the result its meet with the range of the type. The code computes in 128 bits; here numbers have
+-- no limit.
 use Rattle.std.specs.Prelude.{◌-◌, ◌^◌, Bool, not, ℤ, pos, ◌+ℤ◌, ◌-ℤ◌, neg_ℤ}
 use Rattle.std.specs.Int.{int_max, int_min}
 use Rattle.iec_tables.specs.Types as types

@@ -1,6 +1,6 @@
--- The operators that choose among numbers, and conversions. Source: IEC 61131-3, selection functions and type
--- conversions; a
--- conversion keeps the number, and a run faults where the type that it converts to doesn't have it.
+-- The operators that choose among numbers, and conversions. Source: IEC 61131-3, selection functions and
+-- type conversions; a conversion keeps the number, and a run faults where the type that it converts to
+-- doesn't have it.
 use Rattle.std.specs.Prelude.{Bool, not, ◌||◌, if◌then◌else◌, ℤ, pos}
 use Rattle.std.specs.Int.{int_max, int_min}
 use Rattle.std.specs.Ordering.{int_eq}

@@ -1,9 +1,7 @@
--- Shifts and rotations of bit strings, which are read as unsigned numbers of `width` bits. A negative count is
--- 0. Source: IEC
--- 61131-3, bit shift functions; the intervals are this profile's choice. The code works on machine words; here
--- patterns are numbers
--- of any size. The first operand is cut to the patterns of the type first: of a bit string's range nothing is
--- lost by that.
+-- Shifts and rotations of bit strings, which are read as unsigned numbers of `width` bits. A negative count
+-- is 0. Source: IEC 61131-3, bit shift functions; the intervals are this profile's choice. The code works
+-- on machine words; here patterns are numbers of any size. The first operand is cut to the patterns of the
+-- type first: of a bit string's range nothing is lost by that.
 use Rattle.std.specs.Prelude.{ℕ, min, ◌+◌, ◌-◌, ◌*◌, ◌/◌, ◌%◌, ◌^◌, ℤ, pos, negsuc, unsigned_abs}
 use Rattle.interval_domain.specs.Interval.{Interval, span, strict}
 use Rattle.interval_domain.specs.Bits.{patterns, patterns_in, pattern_row}

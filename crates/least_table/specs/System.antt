@@ -1,8 +1,7 @@
--- Systems over a finite grid, their closed tables and the least of them. Source: interval analysis, in which
--- the least fixpoint of a
--- monotone operator is the least table that holds what the operator gives for it. The code evaluates units
--- until nothing grows; here no
--- unit comes before another and nothing is done again.
+-- Systems over a finite grid, their closed tables and the least of them. Source: interval analysis, in
+-- which the least fixpoint of a monotone operator is the least table that holds what the operator gives for
+-- it. The code evaluates units until nothing grows; here no unit comes before another and nothing is done
+-- again.
 use Rattle.std.specs.Prelude.{◌≡◌, ℕ, ◌+◌, ◌*◌, ◌<◌, ◌≤◌, ◌⊎◌, Bool, true, List, [], ◌∷◌, length, get_or, replicate, ℤ}
 use Rattle.std.specs.List.{filter, range_with_len, sum_by}
 use Rattle.std.specs.List.Sorted.{IsStrictlySortedBy}
@@ -14,9 +13,8 @@ use Rattle.interval_domain.specs.Grid.{IsOnGrid}
 abbrev pub Intervals : Type 0
 Intervals = List Interval
 
--- What a system means: its grid, the widest interval of each entry, how many units it has, what a unit gives
--- under a table for an entry,
--- and which entries it reads.
+-- What a system means: its grid, the widest interval of each entry, how many units it has, what a unit
+-- gives under a table for an entry, and which entries it reads.
 pub record Meaning : Type 0 where
   pub grid : List ℤ
   pub widest : List Interval
@@ -51,10 +49,9 @@ abbrev pub AgreeFor : Meaning → ℕ → List Interval → List Interval → Ty
 AgreeFor m unit table other =
     (entry : ℕ) → entry < length m.widest → m.reads unit entry ≡ true → at table entry ≡ at other entry
 
--- The law of a system. The grid rises; the widest intervals are ordered and on it, and so is what a unit gives
--- under a table, which lies in the
--- widest interval. Under a larger table no unit gives less, and under two tables that agree on the entries that
--- a unit reads it gives the same.
+-- The law of a system. The grid rises; the widest intervals are ordered and on it, and so is what a unit
+-- gives under a table, which lies in the widest interval. Under a larger table no unit gives less, and
+-- under two tables that agree on the entries that a unit reads it gives the same.
 pub record IsMonotone (m : Meaning) : Type 0 where
   pub rising : IsStrictlySortedBy int_cmp m.grid
   pub widest_ordered : AreOrdered m.widest
@@ -83,13 +80,15 @@ pub record IsJoined (given : ℕ → Interval) (old new : List Interval) : Type 
   pub entries : length new ≡ length old
   pub each : (entry : ℕ) → entry < length old → at new entry ≡ hull (at old entry) (given entry)
 
--- from one table to another by evaluating units in turn: what each gives under the table as it then is, is joined into it
+-- from one table to another by evaluating units in turn: what each gives under the table as it then is, is
+-- joined into it
 abbrev pub IsRun : Meaning → (units : List ℕ) → (start end : List Interval) → Type 0
 IsRun m [] start end = end ≡ start
 IsRun m (unit ∷ units) start end =
     (unit < m.units) × ((next : List Interval) × IsJoined (m.gives unit start) start next × IsRun m units next end)
 
--- The table comes from the empty one by a run of which each evaluation counts one step, and nothing else does.
+-- The table comes from the empty one by a run of which each evaluation counts one step, and nothing else
+-- does.
 abbrev pub IsFoundBy : Meaning → (before after : ℕ) → List Interval → Type 0
 IsFoundBy m before after table =
     (units : List ℕ) × IsRun m units (replicate (length m.widest) Empty) table × (after ≡ before + length units)
@@ -117,8 +116,8 @@ weight grid table = sum_by (numbers_in grid) table
 abbrev pub readers_of : Meaning → ℕ → List ℕ
 readers_of m entry = filter (λ unit. m.reads unit entry) (range_with_len 0 m.units)
 
--- how often units may read a raised entry: for each entry, the grid numbers that it holds times the units that
--- read it, in all
+-- how often units may read a raised entry: for each entry, the grid numbers that it holds times the units
+-- that read it, in all
 abbrev pub readings : Meaning → List Interval → ℕ
 readings m table =
     sum_by (λ entry. numbers_in m.grid (at table entry) * length (readers_of m entry))
