@@ -1,13 +1,8 @@
 -- Intervals made of bounds in order are spans.
-use Rattle.std.proofs.Common.{◌≡◌, ℤ, ◌≤ℤ◌, arith}
-use Rattle.std.specs.Int.{int_max, int_min}
+use Rattle.std.proofs.Common.{ℤ, ◌≤ℤ◌, arith}
 use Rattle.std.proofs.lemmas.Int.{ints, clamps}
-use Rattle.interval_domain.specs.Interval.{Interval, Empty, Span, Holds, IsWithin, span, hull}
+use Rattle.interval_domain.specs.Interval.{Interval, Empty, Span, Holds, IsWithin}
 use Rattle.interval_domain.specs.Operators.{kept}
-use Rattle.interval_domain.specs.Stored.{span-ordered}
-
-pub hull-spans : (a b c d : ℤ) → a ≤ℤ b → c ≤ℤ d → span (int_min a c) (int_max b d) ≡ hull (Span a b) (Span c d)
-hull-spans a b c d h k = span-ordered (int_min a c) (int_max b d) (omega (arith, ints, clamps))
 
 pub kept-le : (x y : ℤ) → x ≤ℤ y → kept x ≤ℤ kept y
 kept-le x y h = omega (arith, ints, clamps)

@@ -356,6 +356,3 @@ cut-larger-not t i k h =
   where
     flipped : (m a b c d : ℤ) → c ≤ℤ a → b ≤ℤ d → ((m -ℤ d) ≤ℤ (m -ℤ b)) × ((m -ℤ a) ≤ℤ (m -ℤ c))
     flipped m a b c d h k = (omega (arith, ints), omega (arith, ints))
-
-pub mirrored-ordered : (m a b : ℤ) → a ≤ℤ b → (m -ℤ b) ≤ℤ (m -ℤ a)
-mirrored-ordered m a b h = omega (arith, ints)

@@ -1,5 +1,5 @@
 -- The laws of negation and absolute value.
-use Rattle.std.proofs.Common.{◌≡◌, ℤ, pos, negsuc, ◌≤ℤ◌, ◌-ℤ◌, neg_ℤ, ◌-◌, ◌^◌, arith, refl, ◌∙◌}
+use Rattle.std.proofs.Common.{◌≡◌, ℤ, pos, negsuc, ◌≤ℤ◌, neg_ℤ, ◌-◌, ◌^◌, arith, refl, ◌∙◌}
 use Rattle.std.specs.Int.{int_max}
 use Rattle.std.proofs.lemmas.Int.{ints, clamps, by_lt_z}
 use Rattle.interval_domain.specs.Interval.{Interval, Span, Holds, IsOrdered}
@@ -32,9 +32,6 @@ larger-neg i o = least-grows-one kept negation_of neg_raw held-neg i (least-neg 
 -- the bounds are in order
 pub neg-ordered : (a b : ℤ) → a ≤ℤ b → kept (neg_ℤ b) ≤ℤ kept (neg_ℤ a)
 neg-ordered a b h = kept-le (neg_ℤ b) (neg_ℤ a) (omega (arith, ints))
-
-pub from-zero : (x : ℤ) → kept (pos 0 -ℤ x) ≡ kept (neg_ℤ x)
-from-zero x = omega (arith, ints, clamps)
 
 -- ---- absolute value
 
@@ -78,9 +75,6 @@ least-abs = least-one (of_one size_of) kept abs_at at
 
 pub larger-abs : (i : Interval) → IsOrdered i → GrowsOne abs_raw i
 larger-abs i o = least-grows-one kept size_of abs_raw held-abs i (least-abs i o)
-
-pub abs-ordered : (a b : ℤ) → a ≤ℤ b → kept (least_size a b) ≤ℤ kept (greatest_size a b)
-abs-ordered a b o = kept-le (least_size a b) (greatest_size a b) (omega (arith, ints, clamps))
 
 -- from bounds that are kept already
 pub least_size-is : (a b : ℤ) → a ≤ℤ pos (2 ^ 127 - 1)

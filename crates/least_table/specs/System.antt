@@ -87,8 +87,7 @@ IsRun m [] start end = end ≡ start
 IsRun m (unit ∷ units) start end =
     (unit < m.units) × ((next : List Interval) × IsJoined (m.gives unit start) start next × IsRun m units next end)
 
--- The table comes from the empty one by a run of which each evaluation counts one step, and nothing else
--- does.
+-- the table comes from the empty one by a run of as many evaluations as steps were counted
 abbrev pub IsFoundBy : Meaning → (before after : ℕ) → List Interval → Type 0
 IsFoundBy m before after table =
     (units : List ℕ) × IsRun m units (replicate (length m.widest) Empty) table × (after ≡ before + length units)
