@@ -1,4 +1,5 @@
-// Which numbers a grid has and how it rounds, worked out by hand: neighbours of a literal, the cap of 1,024 numbers and its ties.
+// Which numbers a grid has and how it rounds, worked out by hand: neighbours of a literal, the cap
+// of 1,024 numbers and its ties.
 use interval_domain::grid::Grid;
 use interval_domain::interval::Interval;
 use std::alloc::{AllocError, Global};
@@ -27,8 +28,9 @@ const FIVE: [(Bounds, Bounds); 10] = [
     ),
 ];
 
-/// The same for the literals 1,000 to 400,000 and -1,000 to -400,000 by thousands. With -1 and the neighbours of the first 170 the grid has 1,021
-/// numbers; the next three are -170,999, 170,999 and -171,000, so that 171,000 and all beyond are left out.
+/// The same for the literals 1,000 to 400,000 and -1,000 to -400,000 by thousands. With -1 and the
+/// neighbours of the first 170 the grid has 1,021 numbers; the next three are -170,999, 170,999 and
+/// -171,000, so that 171,000 and all beyond are left out.
 const CAPPED: [(Bounds, Bounds); 8] = [
     ((-1, -1), (-1, -1)),
     ((-170001, 170001), (-170001, 170001)),

@@ -1,5 +1,6 @@
-// Times the operators on intervals: with the word `time` it prints nanoseconds an operator, else nothing. Its tests are tables of
-// results of the operators, and comparisons with each concrete result over types of 8 bits.
+// Times the operators on intervals: with the word `time` it prints nanoseconds an operator, else
+// nothing. Its tests are tables of results of the operators, and comparisons with each concrete
+// result over types of 8 bits.
 #![tactic(auto)]
 
 #[cfg(test)]

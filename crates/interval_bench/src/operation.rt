@@ -1,4 +1,7 @@
 // The operators by name.
+ghost use Rattle.std.specs.Prelude.{◌≡◌};
+ghost use Rattle.interval_bench.specs.Operations.{raw_of};
+
 use iec_tables::elem::Elem;
 use interval_domain::arithmetic::{abs, div, modulo, mul, neg};
 use interval_domain::bits::{and, not, or, xor};
@@ -33,7 +36,9 @@ pub enum Operation {
 }
 
 /// The operator on two operands. A third operand is the second.
-pub fn apply(operation: Operation, t: Elem, a: Interval, b: Interval) -> Out {
+pub fn apply(operation: Operation, t: Elem, a: Interval, b: Interval) -> Out
+    ensures { result.raw ≡ raw_of operation t a b }
+{
     match operation {
         Operation::Add => add(t, a, b),
         Operation::Sub => sub(t, a, b),

@@ -1,4 +1,5 @@
-// Results of the operators, worked out by hand. (1, 0) is the empty interval; an operator of one operand has it as the second.
+// Results of the operators, worked out by hand. (1, 0) is the empty interval; an operator of one
+// operand has it as the second.
 use crate::operation::Operation;
 use iec_tables::elem::Elem;
 
@@ -41,7 +42,8 @@ pub static WORKED: [Case; 12] = cases![
     Mul Ulint (0, 18446744073709551615) (0, 18446744073709551615) (0, 170141183460469231731687303715884105727) (0, 18446744073709551615),
 ];
 
-// Empty operands, single numbers, changes of sign, bounds of types, divisors that cross or touch 0, results past 128 bits.
+// Empty operands, single numbers, changes of sign, bounds of types, divisors that cross or touch 0,
+// results past 128 bits.
 pub static ARITHMETIC: [Case; 74] = cases![
     Add Sint (1, 0) (1, 2) (1, 0) (1, 0),
     Add Sint (1, 2) (1, 0) (1, 0) (1, 0),

@@ -6,7 +6,7 @@ use Rattle.interval_domain.specs.Interval.{Interval, Empty, Span, Holds, IsWithi
 use Rattle.interval_domain.specs.Operators.{kept}
 use Rattle.interval_domain.specs.Arithmetic.{hull_of}
 use Rattle.interval_domain.specs.Stored.{span-ordered, span-reversed}
-use Rattle.interval_domain.proofs.Bounds.{kept-le, through}
+use Rattle.interval_domain.proofs.Bounds.{kept-le}
 
 -- z lies between p and q, in either order
 abbrev pub IsBetween : ℤ → ℤ → ℤ → Type 0
@@ -24,12 +24,20 @@ abbrev IsAbove : (h p q r s : ℤ) → Type 0
 IsAbove h p q r s = (p ≤ℤ h) × (q ≤ℤ h) × (r ≤ℤ h) × (s ≤ℤ h)
 
 least-below : (p q r s : ℤ) → IsBelow (int_min (int_min p q) (int_min r s)) p q r s
-least-below p q r s =
-    (omega (arith, ints, clamps), omega (arith, ints, clamps), omega (arith, ints, clamps), omega (arith, ints, clamps))
+least-below p q r s = (
+  omega (arith, ints, clamps),
+  omega (arith, ints, clamps),
+  omega (arith, ints, clamps),
+  omega (arith, ints, clamps),
+)
 
 greatest-above : (p q r s : ℤ) → IsAbove (int_max (int_max p q) (int_max r s)) p q r s
-greatest-above p q r s =
-    (omega (arith, ints, clamps), omega (arith, ints, clamps), omega (arith, ints, clamps), omega (arith, ints, clamps))
+greatest-above p q r s = (
+  omega (arith, ints, clamps),
+  omega (arith, ints, clamps),
+  omega (arith, ints, clamps),
+  omega (arith, ints, clamps),
+)
 
 between-bounds : (l h p q r s u v z : ℤ) → IsBelow l p q r s → IsAbove h p q r s
     → IsBetween p q u → IsBetween r s v → IsBetween u v z → (l ≤ℤ z) × (z ≤ℤ h)
@@ -43,20 +51,17 @@ between-bounds l h p q r s u v z b a (inr x) (inr y) (inl w) = (omega (arith, in
 between-bounds l h p q r s u v z b a (inr x) (inr y) (inr w) = (omega (arith, ints), omega (arith, ints))
 
 -- what lies between numbers that lie between the four
-pub between-held : (p q r s u v z : ℤ) → IsBetween p q u → IsBetween r s v → IsBetween u v z → Holds (hull_of p q r s) z
+pub between-held : (p q r s u v z : ℤ) → IsBetween p q u → IsBetween r s v → IsBetween u v z
+    → Holds (hull_of p q r s) z
 between-held p q r s u v z x y w =
-    between-bounds (int_min (int_min p q) (int_min r s)) (int_max (int_max p q) (int_max r s)) p q r s u v z (least-below p q r s) (greatest-above p q r s) x y w
+    between-bounds (int_min (int_min p q) (int_min r s)) (int_max (int_max p q) (int_max r s)) p q r s u v z
+    (least-below p q r s) (greatest-above p q r s) x y w
 
 -- the hull of four numbers lies in each interval that holds them
-pub hull_of-within : (p q r s : ℤ) (j : Interval) → Holds j p → Holds j q → Holds j r → Holds j s → IsWithin (hull_of p q r s) j
+pub hull_of-within : (p q r s : ℤ) (j : Interval) → Holds j p → Holds j q → Holds j r → Holds j s
+    → IsWithin (hull_of p q r s) j
 hull_of-within p q r s Empty h i k l = absurd h
 hull_of-within p q r s (Span a b) h i k l = (omega (arith, ints, clamps), omega (arith, ints, clamps))
-
-pub hull-within : (i j k : Interval) → IsWithin i k → IsWithin j k → IsWithin (hull i j) k
-hull-within Empty j k h l = l
-hull-within (Span a b) Empty k h l = h
-hull-within (Span a b) (Span c d) Empty h l = absurd h
-hull-within (Span a b) (Span c d) (Span e f) h l = (omega (arith, ints, clamps), omega (arith, ints, clamps))
 
 pub hull-left : (i j : Interval) (z : ℤ) → Holds i z → Holds (hull i j) z
 hull-left Empty j z h = absurd h
@@ -73,21 +78,11 @@ holds-within Empty j z h k = absurd k
 holds-within (Span a b) Empty z h k = absurd h
 holds-within (Span a b) (Span c d) z h k = (omega (arith, ints), omega (arith, ints))
 
--- the ends of an interval in order are in it
-pub ordered-low : (a b : ℤ) → a ≤ℤ b → Holds (Span a b) a
-ordered-low a b h = (omega (arith, ints), h)
-
-pub ordered-high : (a b : ℤ) → a ≤ℤ b → Holds (Span a b) b
-ordered-high a b h = (h, omega (arith, ints))
-
-pub ordered-at : (i : Interval) (a b : ℤ) → i ≡ Span a b → a ≤ℤ b → IsOrdered i
-ordered-at i a b e h = subst (λ (i : Interval). IsOrdered i) (sym e) h
-
-pub hull_of-spans : (p q r s : ℤ) → span (int_min (int_min p q) (int_min r s)) (int_max (int_max p q) (int_max r s)) ≡ hull_of p q r s
+pub hull_of-spans : (p q r s : ℤ)
+    → span (int_min (int_min p q) (int_min r s)) (int_max (int_max p q) (int_max r s)) ≡ hull_of p q r s
 hull_of-spans p q r s =
-    let low = least-below p q r s in
-    let high = greatest-above p q r s in
-    span-ordered (int_min (int_min p q) (int_min r s)) (int_max (int_max p q) (int_max r s)) (through (int_min (int_min p q) (int_min r s)) p (int_max (int_max p q) (int_max r s)) low.0 high.0)
+    span-ordered (int_min (int_min p q) (int_min r s)) (int_max (int_max p q) (int_max r s))
+    (omega (arith, ints, clamps))
 
 -- a span within an interval, which may be out of order
 pub span-in : (a b c d : ℤ) → c ≤ℤ a → b ≤ℤ d → IsWithin (span a b) (Span c d)
@@ -100,7 +95,8 @@ span-in a b c d h k =
 pub meet-right : (i k : Interval) → IsWithin (meet i k) k
 meet-right Empty k = tt
 meet-right (Span a b) Empty = tt
-meet-right (Span a b) (Span c d) = span-in (int_max a c) (int_min b d) c d (omega (arith, ints, clamps)) (omega (arith, ints, clamps))
+meet-right (Span a b) (Span c d) =
+    span-in (int_max a c) (int_min b d) c d (omega (arith, ints, clamps)) (omega (arith, ints, clamps))
 
 -- it is in order
 pub meet-ordered : (i k : Interval) → IsOrdered (meet i k)

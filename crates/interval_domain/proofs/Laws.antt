@@ -1,14 +1,17 @@
--- The laws of the operators.
-use Rattle.std.proofs.Common.{◌≡◌, ℤ, pos, ◌≤ℤ◌, ◌+ℤ◌, ◌-ℤ◌, neg_ℤ, ◌^◌, arith, subst, sym}
+-- The laws of spans and meets, of types, of sums and of differences.
+use Rattle.std.proofs.Common.{◌≡◌, ℤ, pos, ◌≤ℤ◌, ◌+ℤ◌, ◌-ℤ◌, neg_ℤ, ◌^◌, ◌&&◌, Bool, int_le, arith, subst, sym, refl}
 use Rattle.std.proofs.lemmas.Int.{ints, clamps, by_lt_z}
 use Rattle.std.specs.Int.{int_max, int_min}
 use Rattle.iec_tables.specs.declared.elem.Elem.{Elem}
-use Rattle.iec_tables.specs.declared.elem.Elem.TheVariants.{Sint, Int, Dint, Lint, Usint, Uint, Udint, Ulint, Bool, Byte, Word, Dword, Lword, Time}
 use Rattle.iec_tables.specs.Types as types
-use Rattle.interval_domain.specs.Interval.{Interval, Empty, Span, Holds, IsWithin, span, meet}
-use Rattle.interval_domain.specs.Operators.{kept, range_of, sum_of, difference_of, add_raw, sub_raw, HoldsResults, IsLeast, GrowsWith}
+use Rattle.interval_domain.specs.Interval.{Interval, Empty, Span, Holds, IsWithin, IsOrdered, span, meet_at, meet}
+use Rattle.interval_domain.specs.Operators.{kept, range_of, sum_of, difference_of, add_at, sub_at, add_raw, sub_raw}
+use Rattle.interval_domain.specs.Laws.{of_two}
 use Rattle.interval_domain.specs.Stored.{span-ordered, span-reversed}
-use Rattle.interval_domain.proofs.Bounds.{kept-le, both-ends}
+use Rattle.interval_domain.proofs.Bounds.{kept-le, both-ends, ordered-low, ordered-high}
+use Rattle.interval_domain.proofs.Orders.{le-is, and-is}
+use Rattle.interval_domain.proofs.Strict.{IsLeastFor, GrowsTwo, held-two, least-two, rises-two}
+use Rattle.interval_domain.proofs.EachType.{for-each-type}
 
 -- ---- spans and meets
 
@@ -29,31 +32,27 @@ meet-holds (Span a b) Empty z h k = absurd k
 meet-holds (Span a b) (Span c d) z h k =
     span-holds (int_max a c) (int_min b d) z (omega (arith, ints, clamps)) (omega (arith, ints, clamps))
 
+meet_at-within : (e f a b c d : ℤ) → c ≤ℤ a → b ≤ℤ d → IsWithin (meet_at a b e f) (meet_at c d e f)
+meet_at-within e f a b c d h k =
+    span-within (int_max a e) (int_min b f) (int_max c e) (int_min d f) (omega (arith, ints, clamps))
+    (omega (arith, ints, clamps))
+
 pub meet-within : (i j k : Interval) → IsWithin i j → IsWithin (meet i k) (meet j k)
 meet-within Empty j k h = tt
 meet-within (Span a b) Empty k h = absurd h
 meet-within (Span a b) (Span c d) Empty h = tt
-meet-within (Span a b) (Span c d) (Span e f) h =
-    span-within (int_max a e) (int_min b f) (int_max c e) (int_min d f) (omega (arith, ints, clamps)) (omega (arith, ints, clamps))
+meet-within (Span a b) (Span c d) (Span e f) h = meet_at-within e f a b c d h.0 h.1
 
 -- ---- types
 
 -- no type leaves what is kept
+abbrev fits-kept : Elem → Bool
+fits-kept t = int_le (neg_ℤ (pos (2 ^ 64))) (types.low_of t) && int_le (types.high_of t) (pos (2 ^ 64))
+
 pub range-kept : (t : Elem) → (neg_ℤ (pos (2 ^ 64)) ≤ℤ types.low_of t) × (types.high_of t ≤ℤ pos (2 ^ 64))
-range-kept Sint = (omega (arith, ints), omega (arith, ints))
-range-kept Int = (omega (arith, ints), omega (arith, ints))
-range-kept Dint = (omega (arith, ints), omega (arith, ints))
-range-kept Lint = (omega (arith, ints), omega (arith, ints))
-range-kept Usint = (omega (arith, ints), omega (arith, ints))
-range-kept Uint = (omega (arith, ints), omega (arith, ints))
-range-kept Udint = (omega (arith, ints), omega (arith, ints))
-range-kept Ulint = (omega (arith, ints), omega (arith, ints))
-range-kept Bool = (omega (arith, ints), omega (arith, ints))
-range-kept Byte = (omega (arith, ints), omega (arith, ints))
-range-kept Word = (omega (arith, ints), omega (arith, ints))
-range-kept Dword = (omega (arith, ints), omega (arith, ints))
-range-kept Lword = (omega (arith, ints), omega (arith, ints))
-range-kept Time = (omega (arith, ints), omega (arith, ints))
+range-kept t =
+    let both = and-is _ _ (for-each-type fits-kept refl t) in
+    (le-is (neg_ℤ (pos (2 ^ 64))) (types.low_of t) both.0, le-is (types.high_of t) (pos (2 ^ 64)) both.1)
 
 kept-between : (l h z : ℤ) → neg_ℤ (pos (2 ^ 64)) ≤ℤ l → h ≤ℤ pos (2 ^ 64) → l ≤ℤ z → z ≤ℤ h → kept z ≡ z
 kept-between l h z p q r s = omega (arith, ints, clamps)
@@ -63,59 +62,49 @@ kept-typed t z h = kept-between (types.low_of t) (types.high_of t) z (range-kept
 
 -- ---- sums and differences
 
-pub held-add : (a b : Interval) → HoldsResults sum_of a b (add_raw a b)
-held-add Empty j x y h k = absurd h
-held-add (Span a b) Empty x y h k = absurd k
-held-add (Span a b) (Span c d) x y h k =
-    (kept-le (a +ℤ c) (x +ℤ y) (omega (arith, ints)), kept-le (x +ℤ y) (b +ℤ d) (omega (arith, ints)))
+pub held-add : (i j : Interval) (x y : ℤ) → Holds i x → Holds j y → Holds (add_raw i j) (kept (sum_of x y))
+held-add i j x y h k = held-two kept sum_of add_at at i j (x +ℤ y) (x, y, h, k, refl)
+  where
+    at : (a b c d x y : ℤ) → a ≤ℤ x → x ≤ℤ b → c ≤ℤ y → y ≤ℤ d → Holds (add_at a b c d) (kept (sum_of x y))
+    at a b c d x y h k l m =
+        (kept-le (a +ℤ c) (x +ℤ y) (omega (arith, ints)), kept-le (x +ℤ y) (b +ℤ d) (omega (arith, ints)))
 
-pub held-sub : (a b : Interval) → HoldsResults difference_of a b (sub_raw a b)
-held-sub Empty j x y h k = absurd h
-held-sub (Span a b) Empty x y h k = absurd k
-held-sub (Span a b) (Span c d) x y h k =
-    (kept-le (a -ℤ d) (x -ℤ y) (omega (arith, ints)), kept-le (x -ℤ y) (b -ℤ c) (omega (arith, ints)))
+pub held-sub : (i j : Interval) (x y : ℤ) → Holds i x → Holds j y → Holds (sub_raw i j) (kept (difference_of x y))
+held-sub i j x y h k = held-two kept difference_of sub_at at i j (x -ℤ y) (x, y, h, k, refl)
+  where
+    at : (a b c d x y : ℤ) → a ≤ℤ x → x ≤ℤ b → c ≤ℤ y → y ≤ℤ d → Holds (sub_at a b c d) (kept (difference_of x y))
+    at a b c d x y h k l m =
+        (kept-le (a -ℤ d) (x -ℤ y) (omega (arith, ints)), kept-le (x -ℤ y) (b -ℤ c) (omega (arith, ints)))
 
-pub larger-add : (a b : Interval) → GrowsWith add_raw a b (add_raw a b)
-larger-add Empty j k l h m = tt
-larger-add (Span a b) Empty k l h m = tt
-larger-add (Span a b) (Span c d) Empty l h m = absurd h
-larger-add (Span a b) (Span c d) (Span e f) Empty h m = absurd m
-larger-add (Span a b) (Span c d) (Span e f) (Span g i) h m =
-    (kept-le (e +ℤ g) (a +ℤ c) (omega (arith, ints)), kept-le (b +ℤ d) (f +ℤ i) (omega (arith, ints)))
+pub larger-add : (i j : Interval) → GrowsTwo add_raw i j
+larger-add = rises-two add_at at
+  where
+    at : (a b c d e f g n : ℤ) → e ≤ℤ a → b ≤ℤ f → g ≤ℤ c → d ≤ℤ n → IsWithin (add_at a b c d) (add_at e f g n)
+    at a b c d e f g n h k l m =
+        (kept-le (e +ℤ g) (a +ℤ c) (omega (arith, ints)), kept-le (b +ℤ d) (f +ℤ n) (omega (arith, ints)))
 
-pub larger-sub : (a b : Interval) → GrowsWith sub_raw a b (sub_raw a b)
-larger-sub Empty j k l h m = tt
-larger-sub (Span a b) Empty k l h m = tt
-larger-sub (Span a b) (Span c d) Empty l h m = absurd h
-larger-sub (Span a b) (Span c d) (Span e f) Empty h m = absurd m
-larger-sub (Span a b) (Span c d) (Span e f) (Span g i) h m =
-    (kept-le (e -ℤ i) (a -ℤ d) (omega (arith, ints)), kept-le (b -ℤ c) (f -ℤ g) (omega (arith, ints)))
+pub larger-sub : (i j : Interval) → GrowsTwo sub_raw i j
+larger-sub = rises-two sub_at at
+  where
+    at : (a b c d e f g n : ℤ) → e ≤ℤ a → b ≤ℤ f → g ≤ℤ c → d ≤ℤ n → IsWithin (sub_at a b c d) (sub_at e f g n)
+    at a b c d e f g n h k l m =
+        (kept-le (e -ℤ n) (a -ℤ d) (omega (arith, ints)), kept-le (b -ℤ c) (f -ℤ g) (omega (arith, ints)))
 
--- ---- the least interval: both bounds of a raw result are results
+-- both bounds of a raw result are results
+pub least-add : (i j : Interval) → IsOrdered i → IsOrdered j → IsLeastFor (of_two sum_of i j) kept (add_raw i j)
+least-add = least-two (λ i j. of_two sum_of i j) kept add_at at
+  where
+    at : (a b c d : ℤ) → a ≤ℤ b → c ≤ℤ d → IsLeastFor (of_two sum_of (Span a b) (Span c d)) kept (add_at a b c d)
+    at a b c d p q k all =
+        both-ends _ _ k (all (a +ℤ c) (a, c, ordered-low a b p, ordered-low c d q, refl))
+        (all (b +ℤ d) (b, d, ordered-high a b p, ordered-high c d q, refl))
 
--- an interval with bounds in order, which it holds
-abbrev pub IsSpan : Interval → ℤ → ℤ → Type 0
-IsSpan i a b = (i ≡ Span a b) × (a ≤ℤ b)
-
-spans-least-add : (a b c d : ℤ) → a ≤ℤ b → c ≤ℤ d → IsLeast sum_of (Span a b) (Span c d) (add_raw (Span a b) (Span c d))
-spans-least-add a b c d p q j all =
-    both-ends _ _ j (all a c (omega (arith, ints), p) (omega (arith, ints), q)) (all b d (p, omega (arith, ints)) (q, omega (arith, ints)))
-
-spans-least-sub : (a b c d : ℤ) → a ≤ℤ b → c ≤ℤ d → IsLeast difference_of (Span a b) (Span c d) (sub_raw (Span a b) (Span c d))
-spans-least-sub a b c d p q j all =
-    both-ends _ _ j (all a d (omega (arith, ints), p) (q, omega (arith, ints))) (all b c (p, omega (arith, ints)) (omega (arith, ints), q))
-
-pub least-add : (i j r : Interval) (a b c d : ℤ) → IsSpan i a b → IsSpan j c d → r ≡ add_raw i j → IsLeast sum_of i j r
-least-add i j r a b c d p q e =
-    subst (λ (r : Interval). IsLeast sum_of i j r) (sym e)
-    (subst (λ (i : Interval). IsLeast sum_of i j (add_raw i j)) (sym p.0)
-    (subst (λ (j : Interval). IsLeast sum_of (Span a b) j (add_raw (Span a b) j)) (sym q.0) (spans-least-add a b c d p.1 q.1)))
-
-pub least-sub : (i j r : Interval) (a b c d : ℤ) → IsSpan i a b → IsSpan j c d → r ≡ sub_raw i j → IsLeast difference_of i j r
-least-sub i j r a b c d p q e =
-    subst (λ (r : Interval). IsLeast difference_of i j r) (sym e)
-    (subst (λ (i : Interval). IsLeast difference_of i j (sub_raw i j)) (sym p.0)
-    (subst (λ (j : Interval). IsLeast difference_of (Span a b) j (sub_raw (Span a b) j)) (sym q.0) (spans-least-sub a b c d p.1 q.1)))
-
-pub least-empty : (op : ℤ → ℤ → ℤ) (i j r : Interval) → r ≡ Empty → IsLeast op i j r
-least-empty op i j r e = subst (λ (r : Interval). IsLeast op i j r) (sym e) (λ k all. tt)
+pub least-sub : (i j : Interval) → IsOrdered i → IsOrdered j
+    → IsLeastFor (of_two difference_of i j) kept (sub_raw i j)
+least-sub = least-two (λ i j. of_two difference_of i j) kept sub_at at
+  where
+    at : (a b c d : ℤ) → a ≤ℤ b → c ≤ℤ d
+        → IsLeastFor (of_two difference_of (Span a b) (Span c d)) kept (sub_at a b c d)
+    at a b c d p q k all =
+        both-ends _ _ k (all (a -ℤ d) (a, d, ordered-low a b p, ordered-high c d q, refl))
+        (all (b -ℤ c) (b, c, ordered-high a b p, ordered-low c d q, refl))

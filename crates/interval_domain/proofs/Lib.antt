@@ -1,9 +1,13 @@
 pub mod Between
 pub mod Bounds
 pub mod Choices
+pub mod Cuts
+pub mod EachType
 pub mod Laws
 pub mod OnGrid
 pub mod OneGrid
+pub mod Orders
+pub mod PatternRow
 pub mod Patterns
 pub mod Products
 pub mod Quotients
@@ -13,6 +17,9 @@ pub mod Searching
 pub mod Sets
 pub mod Shapes
 pub mod Signs
+pub mod Strict
 pub mod Tests
+pub mod Truths
 pub mod Turning
 pub mod Within
+pub mod Words

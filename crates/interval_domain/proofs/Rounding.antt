@@ -1,32 +1,25 @@
 -- The search in a rising list, and the laws of rounding.
-use Rattle.std.proofs.Common.{◌≡◌, true, false, List, [], ◌∷◌, ℤ, ◌≤ℤ◌, ◌<ℤ◌, int_le, arith, sym, subst}
+use Rattle.std.proofs.Common.{◌≡◌, List, [], ◌∷◌, ℤ, ◌≤ℤ◌, int_le, arith, sym, subst}
 use Rattle.std.specs.List.{filter}
 use Rattle.std.proofs.lemmas.Int.{ints, by_lt_z}
 use Rattle.interval_domain.specs.Interval.{Interval, Empty, Span, IsWithin, span}
 use Rattle.interval_domain.specs.Stored.{span-ordered}
+use Rattle.interval_domain.proofs.Orders.{le-yes, le-no}
 use Rattle.interval_domain.specs.Grid.{first_or, last_or, floor_in, ceiling_in, rounded, GrowsFrom}
-
--- ---- laws
-
-pub le_true : (a b : ℤ) → a ≤ℤ b → int_le a b ≡ true
-le_true a b h = grind (arith, ints)
-
-pub le_false : (a b : ℤ) → b <ℤ a → int_le a b ≡ false
-le_false a b h = grind (arith, ints)
 
 last-le : (d z : ℤ) (g : List ℤ) → d ≤ℤ z → last_or d (filter (λ n. int_le n z) g) ≤ℤ z
 last-le d z [] h = h
 last-le d z (x ∷ xs) h =
     by_lt_z z x
-    (λ above. rw (le_false x z above) (last-le d z xs h))
-    (λ below. rw (le_true x z below) (last-le x z xs below))
+    (λ above. rw (le-no x z above) (last-le d z xs h))
+    (λ below. rw (le-yes x z below) (last-le x z xs below))
 
 first-ge : (z : ℤ) (g : List ℤ) → z ≤ℤ first_or z (filter (λ n. int_le z n) g)
 first-ge z [] = omega (arith, ints)
 first-ge z (x ∷ xs) =
     by_lt_z x z
-    (λ below. rw (le_false z x below) (first-ge z xs))
-    (λ above. rw (le_true z x above) above)
+    (λ below. rw (le-no z x below) (first-ge z xs))
+    (λ above. rw (le-yes z x above) above)
 
 last-grows : (d e z w : ℤ) (g : List ℤ) → d ≤ℤ e → d ≤ℤ z → e ≤ℤ w → z ≤ℤ w
     → last_or d (filter (λ n. int_le n z) g) ≤ℤ last_or e (filter (λ n. int_le n w) g)
@@ -34,20 +27,22 @@ last-grows d e z w [] p q r s = p
 last-grows d e z w (x ∷ xs) p q r s =
     by_lt_z z x
     (λ above_z. by_lt_z w x
-    (λ above_w. rw (le_false x z above_z, le_false x w above_w) (last-grows d e z w xs p q r s))
-    (λ below_w. rw (le_false x z above_z, le_true x w below_w) (last-grows d x z w xs (omega (arith, ints)) q below_w s)))
-    (λ below_z. rw (le_true x z below_z, le_true x w (omega (arith, ints))) (last-grows x x z w xs (omega (arith, ints)) below_z (omega (arith, ints)) s))
+    (λ above_w. rw (le-no x z above_z, le-no x w above_w) (last-grows d e z w xs p q r s))
+    (λ below_w. rw (le-no x z above_z, le-yes x w below_w) (last-grows d x z w xs (omega (arith, ints)) q below_w s)))
+    (λ below_z. rw (le-yes x z below_z, le-yes x w (omega (arith, ints)))
+    (last-grows x x z w xs (omega (arith, ints)) below_z (omega (arith, ints)) s))
 
-first-grows : (z w : ℤ) (g : List ℤ) → z ≤ℤ w → first_or z (filter (λ n. int_le z n) g) ≤ℤ first_or w (filter (λ n. int_le w n) g)
+first-grows : (z w : ℤ) (g : List ℤ) → z ≤ℤ w
+    → first_or z (filter (λ n. int_le z n) g) ≤ℤ first_or w (filter (λ n. int_le w n) g)
 first-grows z w [] s = s
 first-grows z w (x ∷ xs) s =
     by_lt_z x z
-    (λ below_z. rw (le_false z x below_z, le_false w x (omega (arith, ints))) (first-grows z w xs s))
+    (λ below_z. rw (le-no z x below_z, le-no w x (omega (arith, ints))) (first-grows z w xs s))
     (λ above_z. by_lt_z x w
     (λ below_w.
     let more : w ≤ℤ first_or w (filter (λ n. int_le w n) xs) = first-ge w xs in
-    rw (le_true z x above_z, le_false w x below_w) (omega (arith, ints)))
-    (λ above_w. rw (le_true z x above_z, le_true w x above_w) (omega (arith, ints))))
+    rw (le-yes z x above_z, le-no w x below_w) (omega (arith, ints)))
+    (λ above_w. rw (le-yes z x above_z, le-yes w x above_w) (omega (arith, ints))))
 
 pub rounded-wider : (g : List ℤ) (i : Interval) → IsWithin i (rounded g i)
 rounded-wider g Empty = tt

@@ -3,15 +3,17 @@ use Rattle.std.proofs.Common.{◌≡◌, ap, ◌∙◌, ℕ, ◌+◌, ◌*◌, �
 use Rattle.std.proofs.Math.Nat.{pow-le-pow_right}
 use Rattle.std.proofs.lemmas.Nat.{mul-add-lt, mod_below, pow_pos, pow-add, shr_below}
 use Rattle.std.proofs.lemmas.Int.{ints}
-use Rattle.interval_domain.specs.Interval.{Interval, Empty, Span, Holds, IsWithin, IsOrdered}
-use Rattle.interval_domain.specs.Selection.{HoldsAll}
+use Rattle.interval_domain.specs.Interval.{Interval, Span, Holds, IsWithin, IsOrdered}
 use Rattle.interval_domain.specs.Bits.{patterns, patterns_in}
-use Rattle.interval_domain.specs.Shifts.{moved, turns, turned, shl_of, shr_of, rol_of, ror_of, shl_row, shr_row, rol_row, ror_row, moved_row, cut_row}
+use Rattle.interval_domain.specs.Laws.{any, same, of_two}
+use Rattle.interval_domain.specs.Shifts.{moved, turns, turned, shl_of, shr_of, rol_of, ror_of, any_pattern, shr_at, shr_row, cut_row}
 use Rattle.interval_domain.proofs.Laws.{span-holds, span-within, meet-within}
-use Rattle.interval_domain.proofs.Between.{holds-within, meet-right, meet-ordered}
+use Rattle.interval_domain.proofs.Between.{meet-right, meet-ordered}
+use Rattle.interval_domain.proofs.Orders.{through, itself}
+use Rattle.interval_domain.proofs.PatternRow.{IsPatternOperator}
+use Rattle.interval_domain.proofs.Patterns.{size-up}
 use Rattle.interval_domain.proofs.Quotients.{div-up, div-down}
-use Rattle.interval_domain.proofs.Patterns.{exact_or-held, exact_or-larger, size-up}
-use Rattle.interval_domain.proofs.Bounds.{through}
+use Rattle.interval_domain.proofs.Strict.{Contains, GrowsTwo, held-where, grows-where}
 
 -- ---- patterns
 
@@ -21,7 +23,8 @@ turned-below w x p h k =
     let split : 2 ^ w ≡ 2 ^ (w - p) * 2 ^ p = ap (λ n. 2 ^ n) (sym whole) ∙ pow-add 2 (w - p) p in
     let fits : x < 2 ^ ((w - p) + p) = subst (λ (n : ℕ). x < 2 ^ n) (sym whole) k in
     subst (λ (n : ℕ). turned w x p < n) (sym split)
-    (mul-add-lt (x % 2 ^ p) (2 ^ (w - p)) (x / 2 ^ p) (2 ^ p) (mod_below x (2 ^ p) (pow_pos p)) (shr_below x (w - p) p fits))
+    (mul-add-lt (x % 2 ^ p) (2 ^ (w - p)) (x / 2 ^ p) (2 ^ p) (mod_below x (2 ^ p) (pow_pos p))
+    (shr_below x (w - p) p fits))
 
 -- what the code computes
 pub turned-at : (w x p r q : ℕ) → p ≤ w → x < 2 ^ w → q ≡ 2 ^ p → r ≡ (x % q) * 2 ^ (w - p) → r + x / 2 ^ p < 2 ^ w
@@ -48,70 +51,32 @@ pattern-size w (pos x) h = below x (2 ^ w) (pow_pos w) h.1
     below x p h k = omega (arith, ints)
 pattern-size w (negsuc x) h = absurd (omega (arith, ints, h.0))
 
--- the result of a pattern is one
-abbrev KeepsPatterns : (ℕ → ℤ → ℤ → ℤ) → ℕ → Type 0
-KeepsPatterns op w = (x n : ℤ) → Holds (patterns w) x → Holds (patterns w) (op w x n)
+-- ---- SHL, ROL and ROR: the result of a pattern is one
 
-keeps-shl : (w : ℕ) → KeepsPatterns shl_of w
-keeps-shl w x n h =
-    natural-pattern w (unsigned_abs x * 2 ^ moved w n % 2 ^ w) (mod_below (unsigned_abs x * 2 ^ moved w n) (2 ^ w) (pow_pos w))
+pattern-op : (op : ℕ → ℤ → ℤ → ℤ) (w : ℕ) → ((x n : ℤ) → Holds (patterns w) x → Holds (patterns w) (op w x n))
+    → IsPatternOperator (Holds (patterns w)) any (op w) (any_pattern w)
+pattern-op op w keeps = record {
+  held = λ a b c d x n p q h k l m. keeps x n p;
+  grows = λ a b c d e f g n p q h k l m. (itself (pos 0), itself (pos (2 ^ w - 1)));
+}
 
-keeps-rol : (w : ℕ) → 0 < w → KeepsPatterns rol_of w
-keeps-rol w p x n h =
-    natural-pattern w (turned w (unsigned_abs x) (w - turns w n)) (turned-below w (unsigned_abs x) (w - turns w n) (omega arith) (pattern-size w x h))
+pub shl-operator : (w : ℕ) → IsPatternOperator (Holds (patterns w)) any (shl_of w) (any_pattern w)
+shl-operator w =
+    pattern-op shl_of w (λ x n h. natural-pattern w _
+    (mod_below (unsigned_abs x * 2 ^ moved w n) (2 ^ w) (pow_pos w)))
 
-keeps-ror : (w : ℕ) → 0 < w → KeepsPatterns ror_of w
-keeps-ror w p x n h =
-    let below : turns w n < w = turns-below w n p in
-    natural-pattern w (turned w (unsigned_abs x) (turns w n)) (turned-below w (unsigned_abs x) (turns w n) (omega arith) (pattern-size w x h))
+turned-pattern : (w place : ℕ) (x : ℤ) → place ≤ w → Holds (patterns w) x
+    → Holds (patterns w) (pos (turned w (unsigned_abs x) place))
+turned-pattern w place x h p =
+    natural-pattern w (turned w (unsigned_abs x) place) (turned-below w (unsigned_abs x) place h (pattern-size w x p))
 
--- ---- SHL, ROL and ROR
+pub rol-operator : (w : ℕ) → 0 < w → IsPatternOperator (Holds (patterns w)) any (rol_of w) (any_pattern w)
+rol-operator w p = pattern-op rol_of w (λ x n. turned-pattern w (w - turns w n) x (omega arith))
 
-moved-held : (op : ℕ → ℤ → ℤ → ℤ) (w : ℕ) → KeepsPatterns op w → (i j : Interval) → IsWithin i (patterns w) → HoldsAll (op w) i j (moved_row op w i j)
-moved-held op w keeps Empty j p x n h k = absurd h
-moved-held op w keeps (Span a b) Empty p x n h k = absurd k
-moved-held op w keeps (Span a b) (Span c d) p x n h k =
-    exact_or-held (op w) a b c d x n (patterns w) h.0 h.1 k.0 k.1 (keeps x n (holds-within (Span a b) (patterns w) x p h))
-
-same-within : (z : ℤ) → z ≤ℤ z
-same-within z = omega (arith, ints)
-
-moved-larger : (op : ℕ → ℤ → ℤ → ℤ) (w : ℕ) → KeepsPatterns op w → (i j : Interval) → IsOrdered i → IsOrdered j → IsWithin i (patterns w)
-    → (k l : Interval) → IsWithin i k → IsWithin j l → IsWithin (moved_row op w i j) (moved_row op w k l)
-moved-larger op w keeps Empty j o q p k l h m = tt
-moved-larger op w keeps (Span a b) Empty o q p k l h m = tt
-moved-larger op w keeps (Span a b) (Span c d) o q p Empty l h m = absurd h
-moved-larger op w keeps (Span a b) (Span c d) o q p (Span e f) Empty h m = absurd m
-moved-larger op w keeps (Span a b) (Span c d) o q p (Span e f) (Span g n) h m =
-    exact_or-larger (op w) a b c d e f g n (patterns w) (patterns w) o q h.0 h.1 m.0 m.1
-    (keeps a c (p.0, through a b (pos (2 ^ w - 1)) o p.1)) (same-within (pos 0), same-within (pos (2 ^ w - 1)))
-
--- of an operand that is cut to patterns
-cut-held : (op : ℕ → ℤ → ℤ → ℤ) (w : ℕ) → KeepsPatterns op w → (i j : Interval) → HoldsAll (op w) (patterns_in w i) j (cut_row (moved_row op) w i j)
-cut-held op w keeps i j = moved-held op w keeps (patterns_in w i) j (meet-right i (patterns w))
-
-cut-larger : (op : ℕ → ℤ → ℤ → ℤ) (w : ℕ) → KeepsPatterns op w → (i j : Interval) → IsOrdered j → (k l : Interval) → IsWithin i k → IsWithin j l
-    → IsWithin (cut_row (moved_row op) w i j) (cut_row (moved_row op) w k l)
-cut-larger op w keeps i j o k l h m =
-    moved-larger op w keeps (patterns_in w i) j (meet-ordered i (patterns w)) o (meet-right i (patterns w)) (patterns_in w k) l (meet-within i k (patterns w) h) m
-
-pub cut-held-shl : (w : ℕ) → (i j : Interval) → HoldsAll (shl_of w) (patterns_in w i) j (cut_row shl_row w i j)
-cut-held-shl w = cut-held shl_of w (keeps-shl w)
-
-pub cut-larger-shl : (w : ℕ) → (i j : Interval) → IsOrdered j → (k l : Interval) → IsWithin i k → IsWithin j l → IsWithin (cut_row shl_row w i j) (cut_row shl_row w k l)
-cut-larger-shl w = cut-larger shl_of w (keeps-shl w)
-
-pub cut-held-rol : (w : ℕ) → 0 < w → (i j : Interval) → HoldsAll (rol_of w) (patterns_in w i) j (cut_row rol_row w i j)
-cut-held-rol w p = cut-held rol_of w (keeps-rol w p)
-
-pub cut-larger-rol : (w : ℕ) → 0 < w → (i j : Interval) → IsOrdered j → (k l : Interval) → IsWithin i k → IsWithin j l → IsWithin (cut_row rol_row w i j) (cut_row rol_row w k l)
-cut-larger-rol w p = cut-larger rol_of w (keeps-rol w p)
-
-pub cut-held-ror : (w : ℕ) → 0 < w → (i j : Interval) → HoldsAll (ror_of w) (patterns_in w i) j (cut_row ror_row w i j)
-cut-held-ror w p = cut-held ror_of w (keeps-ror w p)
-
-pub cut-larger-ror : (w : ℕ) → 0 < w → (i j : Interval) → IsOrdered j → (k l : Interval) → IsWithin i k → IsWithin j l → IsWithin (cut_row ror_row w i j) (cut_row ror_row w k l)
-cut-larger-ror w p = cut-larger ror_of w (keeps-ror w p)
+pub ror-operator : (w : ℕ) → 0 < w → IsPatternOperator (Holds (patterns w)) any (ror_of w) (any_pattern w)
+ror-operator w p =
+    pattern-op ror_of w (λ x n. let below : turns w n < w = turns-below w n p in turned-pattern w (turns w n) x
+    (omega arith))
 
 -- ---- SHR
 
@@ -132,31 +97,35 @@ shr-up w a x m n p h k =
     let second : unsigned_abs x / 2 ^ moved w m ≤ unsigned_abs x / 2 ^ moved w n =
     div-down (unsigned_abs x) (2 ^ moved w n) (2 ^ moved w m) (pow_pos (moved w n)) powers in
     pos-le (unsigned_abs a / 2 ^ moved w m) (unsigned_abs x / 2 ^ moved w n)
-    (joined (unsigned_abs a / 2 ^ moved w m) (unsigned_abs x / 2 ^ moved w m) (unsigned_abs x / 2 ^ moved w n) first second)
+    (joined (unsigned_abs a / 2 ^ moved w m) (unsigned_abs x / 2 ^ moved w m)
+    (unsigned_abs x / 2 ^ moved w n) first second)
   where
     joined : (a b c : ℕ) → a ≤ b → b ≤ c → a ≤ c
     joined a b c h k = omega arith
 
-held-shr : (w : ℕ) (i j : Interval) → IsWithin i (patterns w) → HoldsAll (shr_of w) i j (shr_row w i j)
-held-shr w Empty j p x n h k = absurd h
-held-shr w (Span a b) Empty p x n h k = absurd k
-held-shr w (Span a b) (Span c d) p x n h k =
-    span-holds (shr_of w a d) (shr_of w b c) (shr_of w x n)
-    (shr-up w a x d n p.0 h.0 k.1) (shr-up w x b n c (through (pos 0) a x p.0 h.0) h.1 k.0)
+pub cut-held-shr : (w : ℕ) (i j : Interval)
+    → Contains (of_two (shr_of w) (patterns_in w i) j) same (cut_row shr_row w i j)
+cut-held-shr w i j =
+    held-where same (shr_of w) (shr_at w) (λ i. IsWithin i (patterns w)) (λ j. Unit {0}) at
+    (patterns_in w i) j (meet-right i (patterns w)) tt
+  where
+    at : (a b c d x n : ℤ) → IsWithin (Span a b) (patterns w) → Unit {0} → a ≤ℤ x → x ≤ℤ b → c ≤ℤ n → n ≤ℤ d
+        → Holds (shr_at w a b c d) (shr_of w x n)
+    at a b c d x n p u h k l m =
+        span-holds (shr_of w a d) (shr_of w b c) (shr_of w x n)
+        (shr-up w a x d n p.0 h m) (shr-up w x b n c (through (pos 0) a x p.0 h) k l)
 
-larger-shr : (w : ℕ) (i j : Interval) → IsOrdered i → IsWithin i (patterns w) → (k l : Interval) → IsWithin k (patterns w)
-    → IsWithin i k → IsWithin j l → IsWithin (shr_row w i j) (shr_row w k l)
-larger-shr w Empty j o p k l q h m = tt
-larger-shr w (Span a b) Empty o p k l q h m = tt
-larger-shr w (Span a b) (Span c d) o p Empty l q h m = absurd h
-larger-shr w (Span a b) (Span c d) o p (Span e f) Empty q h m = absurd m
-larger-shr w (Span a b) (Span c d) o p (Span e f) (Span g n) q h m =
-    span-within (shr_of w a d) (shr_of w b c) (shr_of w e n) (shr_of w f g)
-    (shr-up w e a n d q.0 h.0 m.1) (shr-up w b f c g (through (pos 0) a b p.0 o) h.1 m.0)
+abbrev ArePatterns : ℕ → Interval → Interval → Type 0
+ArePatterns w i k = IsOrdered i × IsWithin i (patterns w) × IsWithin k (patterns w)
 
-pub cut-held-shr : (w : ℕ) (i j : Interval) → HoldsAll (shr_of w) (patterns_in w i) j (cut_row shr_row w i j)
-cut-held-shr w i j = held-shr w (patterns_in w i) j (meet-right i (patterns w))
-
-pub cut-larger-shr : (w : ℕ) (i j k l : Interval) → IsWithin i k → IsWithin j l → IsWithin (cut_row shr_row w i j) (cut_row shr_row w k l)
+pub cut-larger-shr : (w : ℕ) (i j : Interval) → GrowsTwo (cut_row shr_row w) i j
 cut-larger-shr w i j k l h m =
-    larger-shr w (patterns_in w i) j (meet-ordered i (patterns w)) (meet-right i (patterns w)) (patterns_in w k) l (meet-right k (patterns w)) (meet-within i k (patterns w) h) m
+    grows-where (shr_at w) (ArePatterns w) (λ j l. Unit {0}) at (patterns_in w i) j (patterns_in w k) l
+    (meet-ordered i (patterns w), meet-right i (patterns w), meet-right k (patterns w)) tt
+    (meet-within i k (patterns w) h) m
+  where
+    at : (a b c d e f g n : ℤ) → ArePatterns w (Span a b) (Span e f) → Unit {0} → e ≤ℤ a → b ≤ℤ f → g ≤ℤ c → d ≤ℤ n
+        → IsWithin (shr_at w a b c d) (shr_at w e f g n)
+    at a b c d e f g n (o, p, q) u h k l m =
+        span-within (shr_of w a d) (shr_of w b c) (shr_of w e n) (shr_of w f g)
+        (shr-up w e a n d q.0 h m) (shr-up w b f c g (through (pos 0) a b p.0 o) k l)

@@ -1,9 +1,10 @@
--- The arithmetic operators: on numbers, as a run computes them, and on intervals. A run faults where a divisor is 0 and where a
--- result of `+ - * /`, unary `-` or ABS leaves the type. Source: IEC 61131-3, arithmetic operators and functions; `/` truncates
--- towards 0. The code computes in 128 bits; here numbers have no limit.
+-- The arithmetic operators: on numbers, as a run computes them, and on intervals. A run faults where a
+-- divisor is 0 and where a result of `+ - * /`, unary `-` or ABS leaves the type. Source: IEC 61131-3,
+-- arithmetic operators and functions; `/` truncates towards 0. The code computes in 128 bits; here numbers
+-- have no limit.
 use Rattle.std.specs.Prelude.{◌≡◌, ℕ, max, nat_eq, if◌then◌else◌, ℤ, pos, negsuc, ◌-ℤ◌, ◌*ℤ◌, neg_ℤ, int_lt, unsigned_abs, int_div}
 use Rattle.std.specs.Int.{int_max, int_min}
-use Rattle.interval_domain.specs.Interval.{Interval, Empty, Span, Holds, span, hull}
+use Rattle.interval_domain.specs.Interval.{Interval, Empty, Span, span, strict_one, strict, hull}
 use Rattle.interval_domain.specs.Operators.{kept}
 
 -- ---- on numbers
@@ -37,41 +38,52 @@ abbrev pub hull_of : (p q r s : ℤ) → Interval
 hull_of p q r s = Span (int_min (int_min p q) (int_min r s)) (int_max (int_max p q) (int_max r s))
 
 -- [a, b] * [c, d] spans the products of bounds
-abbrev pub mul_raw : Interval → Interval → Interval
-mul_raw Empty j = Empty
-mul_raw (Span a b) Empty = Empty
-mul_raw (Span a b) (Span c d) =
+abbrev pub mul_at : (a b c d : ℤ) → Interval
+mul_at a b c d =
     hull_of (kept (product_of a c)) (kept (product_of a d)) (kept (product_of b c)) (kept (product_of b d))
+
+abbrev pub mul_raw : Interval → Interval → Interval
+mul_raw i j = strict mul_at i j
 
 -- the part below 0, and the part above
 abbrev pub below_zero : Interval → Interval
-below_zero Empty = Empty
-below_zero (Span c d) = span c (int_min d (negsuc 0))
+below_zero i = strict_one (λ c d. span c (int_min d (negsuc 0))) i
 
 abbrev pub above_zero : Interval → Interval
-above_zero Empty = Empty
-above_zero (Span c d) = span (int_max c (pos 1)) d
+above_zero i = strict_one (λ c d. span (int_max c (pos 1)) d) i
 
 -- by divisors of one sign: what the quotients of bounds span
-abbrev pub quotients : Interval → Interval → Interval
-quotients Empty j = Empty
-quotients (Span a b) Empty = Empty
-quotients (Span a b) (Span c d) =
+abbrev pub quotients_at : (a b c d : ℤ) → Interval
+quotients_at a b c d =
     hull_of (kept (quotient_of a c)) (kept (quotient_of a d)) (kept (quotient_of b c)) (kept (quotient_of b d))
+
+abbrev pub quotients : Interval → Interval → Interval
+quotients i j = strict quotients_at i j
 
 -- the quotients by the negative divisors and by the positive ones, joined
 abbrev pub div_raw : Interval → Interval → Interval
 div_raw i j = hull (quotients i (below_zero j)) (quotients i (above_zero j))
 
 -- - [a, b] is [-b, -a]
+abbrev pub neg_at : (a b : ℤ) → Interval
+neg_at a b = Span (kept (negation_of b)) (kept (negation_of a))
+
 abbrev pub neg_raw : Interval → Interval
-neg_raw Empty = Empty
-neg_raw (Span a b) = Span (kept (negation_of b)) (kept (negation_of a))
+neg_raw i = strict_one neg_at i
 
 -- ABS: from the lower bound, the upper one turned round or 0, whichever is greatest
+abbrev pub least_size : (a b : ℤ) → ℤ
+least_size a b = int_max (pos 0) (int_max a (neg_ℤ b))
+
+-- to the lower bound turned round or the upper one, whichever is greater
+abbrev pub greatest_size : (a b : ℤ) → ℤ
+greatest_size a b = int_max (neg_ℤ a) b
+
+abbrev pub abs_at : (a b : ℤ) → Interval
+abs_at a b = Span (kept (least_size a b)) (kept (greatest_size a b))
+
 abbrev pub abs_raw : Interval → Interval
-abs_raw Empty = Empty
-abs_raw (Span a b) = Span (kept (int_max (pos 0) (int_max a (neg_ℤ b)))) (kept (int_max (neg_ℤ a) b))
+abs_raw i = strict_one abs_at i
 
 -- ---- MOD has no raw result of its own
 
@@ -87,17 +99,8 @@ abbrev pub remainders : (a b : ℤ) → ℕ → Interval
 remainders a b m = if nat_eq m 0 then Empty else span (least_remainder a m) (greatest_remainder b m)
 
 -- empty where 0 is the only divisor
+abbrev pub modulo_at : (a b c d : ℤ) → Interval
+modulo_at a b c d = remainders a b (max (unsigned_abs c) (unsigned_abs d))
+
 abbrev pub modulo_row : Interval → Interval → Interval
-modulo_row Empty j = Empty
-modulo_row (Span a b) Empty = Empty
-modulo_row (Span a b) (Span c d) = remainders a b (max (unsigned_abs c) (unsigned_abs d))
-
--- ---- parts of the laws
-
--- of `/`: over divisors other than 0
-abbrev pub HoldsQuotients : Interval → Interval → Interval → Type 0
-HoldsQuotients a b raw = (x y : ℤ) → Holds a x → Holds b y → IsDivisor y → Holds raw (kept (quotient_of x y))
-
--- of an operator with one operand
-abbrev pub HoldsImages : (ℤ → ℤ) → Interval → Interval → Type 0
-HoldsImages op a raw = (x : ℤ) → Holds a x → Holds raw (kept (op x))
+modulo_row i j = strict modulo_at i j

@@ -1,13 +1,13 @@
--- The operators on bit strings, BOOL among them, which are read as unsigned numbers. Source: IEC 61131-3, bitwise Boolean
--- functions; the intervals are this profile's choice. The code works on machine words; here patterns are numbers of any size.
--- An operand is cut to the patterns of the type first: of a bit string's range nothing is lost by that.
+-- The operators on bit strings, BOOL among them, which are read as unsigned numbers. Source: IEC 61131-3,
+-- bitwise Boolean functions; the intervals are this profile's choice. The code works on machine words; here
+-- patterns are numbers of any size. An operand is cut to the patterns of the type first: of a bit string's
+-- range nothing is lost by that.
 use Rattle.std.specs.Prelude.{◌≡◌, ℕ, zero, suc, ◌-◌, ◌/◌, ◌^◌, ◌&&◌, nat_eq, if◌then◌else◌, ℤ, pos, ◌-ℤ◌, ◌≤ℤ◌, bit_and, bit_or, bit_xor, unsigned_abs}
 use Rattle.std.specs.Int.{int_max, int_min}
 use Rattle.std.specs.Ordering.{int_eq}
 use Rattle.iec_tables.specs.declared.elem.Elem.{Elem}
 use Rattle.iec_tables.specs.Types.{width_of}
-use Rattle.interval_domain.specs.Interval.{Interval, Empty, Span, IsWithin, span, meet}
-use Rattle.interval_domain.specs.Selection.{HoldsAll}
+use Rattle.interval_domain.specs.Interval.{Interval, Span, span, strict_one, strict, meet}
 
 -- the number whose bits are all 1
 abbrev pub all_ones : Elem → ℤ
@@ -50,6 +50,14 @@ not_of t x = all_ones t -ℤ x
 abbrev pub exact_or : (a b c d exact : ℤ) → Interval → Interval
 exact_or a b c d exact other = if int_eq a b && int_eq c d then Span exact exact else other
 
+-- the row of every operator on patterns: exact where both operands are single, else what another function
+-- gives for their bounds
+abbrev pub pattern_at : (op : ℤ → ℤ → ℤ) → (other : (a b c d : ℤ) → Interval) → (a b c d : ℤ) → Interval
+pattern_at op other a b c d = exact_or a b c d (op a c) (other a b c d)
+
+abbrev pub pattern_row : (op : ℤ → ℤ → ℤ) → (other : (a b c d : ℤ) → Interval) → Interval → Interval → Interval
+pattern_row op other i j = strict (pattern_at op other) i j
+
 -- how many binary digits n has, of at most `most`
 unfoldable pub digits : (most : ℕ) → ℕ → ℕ
 digits zero n = 0
@@ -65,25 +73,33 @@ pub record IsOnesAbove (z r : ℤ) : Type 0 where
   pub above : z ≤ℤ r
   pub least : (k : ℕ) → z ≤ℤ pos (2 ^ k - 1) → r ≤ℤ pos (2 ^ k - 1)
 
+-- AND: up to the lesser upper bound
+abbrev pub and_other : (a b c d : ℤ) → Interval
+and_other a b c d = span (pos 0) (int_min b d)
+
+-- OR: from the greater lower bound to the ones above the greater upper bound
+abbrev pub or_other : (a b c d : ℤ) → Interval
+or_other a b c d = span (int_max a c) (ones_above (int_max b d))
+
+-- XOR: up to the same
+abbrev pub xor_other : (a b c d : ℤ) → Interval
+xor_other a b c d = span (pos 0) (ones_above (int_max b d))
+
 abbrev pub and_row : Interval → Interval → Interval
-and_row Empty j = Empty
-and_row (Span a b) Empty = Empty
-and_row (Span a b) (Span c d) = exact_or a b c d (and_of a c) (span (pos 0) (int_min b d))
+and_row i j = pattern_row and_of and_other i j
 
 abbrev pub or_row : Interval → Interval → Interval
-or_row Empty j = Empty
-or_row (Span a b) Empty = Empty
-or_row (Span a b) (Span c d) = exact_or a b c d (or_of a c) (span (int_max a c) (ones_above (int_max b d)))
+or_row i j = pattern_row or_of or_other i j
 
 abbrev pub xor_row : Interval → Interval → Interval
-xor_row Empty j = Empty
-xor_row (Span a b) Empty = Empty
-xor_row (Span a b) (Span c d) = exact_or a b c d (xor_of a c) (span (pos 0) (ones_above (int_max b d)))
+xor_row i j = pattern_row xor_of xor_other i j
 
 -- each number taken from the greatest
+abbrev pub mirrored_at : (greatest : ℤ) → (a b : ℤ) → Interval
+mirrored_at greatest a b = Span (greatest -ℤ b) (greatest -ℤ a)
+
 abbrev pub mirrored : (greatest : ℤ) → Interval → Interval
-mirrored greatest Empty = Empty
-mirrored greatest (Span a b) = Span (greatest -ℤ b) (greatest -ℤ a)
+mirrored greatest i = strict_one (mirrored_at greatest) i
 
 abbrev pub not_row : Elem → Interval → Interval
 not_row t i = mirrored (all_ones t) i
@@ -95,9 +111,3 @@ cut_row row t i j = row (patterns_in (width_of t) i) (patterns_in (width_of t) j
 
 abbrev pub cut_not_row : Elem → Interval → Interval
 cut_not_row t i = not_row t (patterns_in (width_of t) i)
-
--- ---- a part of the laws
-
--- No smaller interval holds all results. So on BOOL the rows above are the values that occur.
-abbrev pub IsLeastOfAll : (ℤ → ℤ → ℤ) → Interval → Interval → Interval → Type 0
-IsLeastOfAll op a b out = (j : Interval) → HoldsAll op a b j → IsWithin out j

@@ -1,12 +1,12 @@
--- Comparisons of intervals, and what an interval is cut to where a comparison is assumed true. Source: IEC 61131-3, comparison
--- functions; the cuts are those of interval analysis.
+-- Comparisons of intervals, and what an interval is cut to where a comparison is assumed true. Source: IEC
+-- 61131-3, comparison functions; the cuts are those of interval analysis.
 use Rattle.std.specs.Prelude.{◌≡◌, Bool, true, false, not, IsTrue, ◌&&◌, ◌||◌, if◌then◌else◌, ℤ, pos, ◌+ℤ◌, ◌-ℤ◌, int_le, int_lt}
 use Rattle.std.specs.Int.{int_max, int_min}
 use Rattle.std.specs.Ordering.{int_eq}
 use Rattle.interval_domain.specs.declared.relation.Compare.{Compare}
 use Rattle.interval_domain.specs.declared.relation.Compare.TheVariants.{Less, LessEqual, Greater, GreaterEqual, Equal, NotEqual}
 use Rattle.interval_domain.specs.declared.relation.Flags.{Flags}
-use Rattle.interval_domain.specs.Interval.{Interval, Empty, Span, Holds, IsWithin, span}
+use Rattle.interval_domain.specs.Interval.{Interval, Empty, Span, Holds, IsWithin, span, strict}
 
 -- ---- on numbers
 
@@ -54,8 +54,8 @@ flags_of op i j = record { yes = may_hold op i j; no = may_hold (opposite op) i 
 abbrev pub AreWithin : Flags → Flags → Type 0
 AreWithin f g = (IsTrue f.yes → IsTrue g.yes) × (IsTrue f.no → IsTrue g.no)
 
--- ---- cuts: what is left of [a, b] where the comparison with [c, d] is assumed true. `<>` drops an end that equals the other
--- side where that is one number.
+-- ---- cuts: what is left of [a, b] where the comparison with [c, d] is assumed true. `<>` drops an end
+-- that equals the other side where that is one number.
 
 -- without a number that is an end
 abbrev pub without : (a b number : ℤ) → Interval
@@ -70,11 +70,10 @@ cut_bounds Equal a b c d = span (int_max a c) (int_min b d)
 cut_bounds NotEqual a b c d = if int_eq c d then without a b c else span a b
 
 abbrev pub cut_row : Compare → Interval → Interval → Interval
-cut_row op Empty j = Empty
-cut_row op (Span a b) Empty = Empty
-cut_row op (Span a b) (Span c d) = cut_bounds op a b c d
+cut_row op i j = strict (cut_bounds op) i j
 
--- the laws: no number for which the comparison may be true is lost, nothing is added, larger sides give no smaller interval
+-- the laws: no number for which the comparison may be true is lost, nothing is added, larger sides give no
+-- smaller interval
 pub record MeetsCutLaws (op : Compare) (own other out : Interval) : Type 0 where
   pub held : (x y : ℤ) → Holds own x → Holds other y → test_of op x y ≡ true → Holds out x
   pub within : IsWithin out own

@@ -1,5 +1,5 @@
--- The grid to whose numbers bounds are rounded. This profile's own. The code searches a rising list by halves, and sorts
--- ranks; here numbers are filtered, and sorted lists are told by their members.
+-- The grid to whose numbers bounds are rounded. This profile's own. The code searches a rising list by
+-- halves, and sorts ranks; here numbers are filtered, and sorted lists are told by their members.
 use Rattle.std.specs.Prelude.{◌≡◌, ℕ, ◌+◌, ◌*◌, ◌/◌, ◌%◌, Bool, not, nat_eq, if◌then◌else◌, List, [], ◌∷◌, ◌++◌, map, take, ℤ, pos, negsuc, int_le, ◌||◌}
 use Rattle.std.specs.List.{filter, flat_map, list_any, Contains}
 use Rattle.std.specs.Ordering.{nat_cmp, int_cmp, int_eq}
@@ -103,8 +103,10 @@ pub record IsSetOf {X : Type 0} (cmp : X → X → Ordering) (xs ys : List X) : 
 
 -- the first 1,024 ranks of the candidates
 abbrev pub AreFirstRanks : List ℤ → List ℕ → Type 0
-AreFirstRanks literals first = (ranks : List ℕ) × IsSetOf nat_cmp (ranks_of (candidates literals)) ranks × (first ≡ take 1024 ranks)
+AreFirstRanks literals first =
+    (ranks : List ℕ) × IsSetOf nat_cmp (ranks_of (candidates literals)) ranks × (first ≡ take 1024 ranks)
 
 -- The grid has, rising, the bounds of types and the numbers of those ranks.
 abbrev pub IsGrid : List ℤ → List ℤ → Type 0
-IsGrid literals grid = (first : List ℕ) × AreFirstRanks literals first × IsSetOf int_cmp (type_bounds ++ map number_of first) grid
+IsGrid literals grid =
+    (first : List ℕ) × AreFirstRanks literals first × IsSetOf int_cmp (type_bounds ++ map number_of first) grid

@@ -1,5 +1,5 @@
--- Intervals of whole numbers: the closed intervals of interval analysis, with one that is empty. The code holds two bounds of
--- 128 bits, with 1 and 0 for the empty one; here bounds have no limit.
+-- Intervals of whole numbers: the closed intervals of interval analysis, with one that is empty. The code
+-- holds two bounds of 128 bits, with 1 and 0 for the empty one; here bounds have no limit.
 use Rattle.std.specs.Prelude.{Bool, true, false, ◌&&◌, if◌then◌else◌, ℤ, pos, ◌≤ℤ◌, int_le}
 use Rattle.std.specs.Int.{int_max, int_min}
 
@@ -49,11 +49,25 @@ hull Empty j = j
 hull (Span a b) Empty = Span a b
 hull (Span a b) (Span c d) = Span (int_min a c) (int_max b d)
 
+-- ---- what an operator gives for bounds as one on intervals: empty where an operand is
+
+abbrev pub strict_one : ((a b : ℤ) → Interval) → Interval → Interval
+strict_one at Empty = Empty
+strict_one at (Span a b) = at a b
+
+abbrev pub strict : ((a b c d : ℤ) → Interval) → Interval → Interval → Interval
+strict at Empty j = Empty
+strict at (Span a b) Empty = Empty
+strict at (Span a b) (Span c d) = at a b c d
+
 -- what both hold
+abbrev pub meet_at : (a b c d : ℤ) → Interval
+meet_at a b c d = span (int_max a c) (int_min b d)
+
 abbrev pub meet : Interval → Interval → Interval
-meet Empty j = Empty
-meet (Span a b) Empty = Empty
-meet (Span a b) (Span c d) = span (int_max a c) (int_min b d)
+meet i j = strict meet_at i j
+
+-- ---- bounds
 
 -- the bounds, of which the empty interval has 1 and 0
 abbrev pub low_of : Interval → ℤ

@@ -1,5 +1,6 @@
--- The laws of the operators on intervals, of one shape for all of them. Source: interval analysis. An operator is told by the numbers that it
--- gives for numbers of its operands; the code computes from bounds alone.
+-- The laws of the operators on intervals, of one shape for all of them. Source: interval analysis. An
+-- operator is told by the numbers that it gives for numbers of its operands; the code computes from bounds
+-- alone.
 use Rattle.std.specs.Prelude.{◌≡◌, ℤ}
 use Rattle.iec_tables.specs.declared.elem.Elem.{Elem}
 use Rattle.interval_domain.specs.Interval.{Interval, Holds, IsWithin}
@@ -21,14 +22,16 @@ of_division op a b z = (x : ℤ) × (y : ℤ) × Holds a x × Holds b y × IsDiv
 abbrev pub of_three : (ℤ → ℤ → ℤ → ℤ) → Interval → Interval → Interval → ℤ → Type 0
 of_three op a b c z = (w : ℤ) × (x : ℤ) × (y : ℤ) × Holds a w × Holds b x × Holds c y × (op w x y ≡ z)
 
--- the results of runs without a fault: those that the type has, or all of them where the operator never leaves it
+-- the results of runs without a fault: those that the type has, or all of them where the operator never
+-- leaves it
 abbrev pub fits : Elem → ℤ → Type 0
 fits t z = Holds (range_of t) z
 
 abbrev pub any : ℤ → Type 0
 any z = Unit {0}
 
--- how a result shows in the raw interval: kept in the limit of bounds, or as it is where no result is larger than an operand
+-- how a result shows in the raw interval: kept in the limit of bounds, or as it is where no result is larger
+-- than an operand
 abbrev pub same : ℤ → ℤ
 same z = z
 
@@ -41,10 +44,13 @@ whole i = i
 abbrev pub with_one : (row out_row : Interval → Interval) → Interval → Interval → Interval → Type 0
 with_one row out_row a raw out = (c : Interval) × IsWithin a c × (raw ≡ row c) × (out ≡ out_row c)
 
-abbrev pub with_two : (row out_row : Interval → Interval → Interval) → Interval → Interval → Interval → Interval → Type 0
-with_two row out_row a b raw out = (c : Interval) × (d : Interval) × IsWithin a c × IsWithin b d × (raw ≡ row c d) × (out ≡ out_row c d)
+abbrev pub with_two : (row out_row : Interval → Interval → Interval) → Interval → Interval → Interval → Interval
+    → Type 0
+with_two row out_row a b raw out =
+    (c : Interval) × (d : Interval) × IsWithin a c × IsWithin b d × (raw ≡ row c d) × (out ≡ out_row c d)
 
-abbrev pub with_three : (row out_row : Interval → Interval → Interval → Interval) → Interval → Interval → Interval → Interval → Interval → Type 0
+abbrev pub with_three : (row out_row : Interval → Interval → Interval → Interval) → Interval → Interval → Interval
+    → Interval → Interval → Type 0
 with_three row out_row a b c raw out = (d : Interval) × (e : Interval) × (f : Interval)
     × IsWithin a d × IsWithin b e × IsWithin c f × (raw ≡ row d e f) × (out ≡ out_row d e f)
 

@@ -1,12 +1,13 @@
--- Operators on intervals, after interval analysis: the raw result is the least interval of all whole-number results, the
--- result its meet with the range of the type. The code computes in 128 bits; here numbers have no limit.
+-- Operators on intervals, after interval analysis: the raw result is the least interval of all whole-number
+-- results, the result its meet with the range of the type. The code computes in 128 bits; here numbers have
+-- no limit.
 use Rattle.std.specs.Prelude.{◌-◌, ◌^◌, Bool, not, ℤ, pos, ◌+ℤ◌, ◌-ℤ◌, neg_ℤ}
 use Rattle.std.specs.Int.{int_max, int_min}
 use Rattle.iec_tables.specs.Types as types
 use Rattle.iec_tables.specs.declared.elem.Elem.{Elem}
 use Rattle.iec_tables.specs.declared.kind.Kind.{Kind}
 use Rattle.iec_tables.specs.declared.kind.Kind.TheVariants.{ZeroDivisor, Index, Subrange, Overflow}
-use Rattle.interval_domain.specs.Interval.{Interval, Empty, Span, Holds, holds, IsWithin, is_within, meet}
+use Rattle.interval_domain.specs.Interval.{Interval, Span, holds, is_within, strict, meet}
 
 -- A size past 2^127 - 1 is kept at 2^127 - 1, with the sign. This profile's limit of bounds.
 abbrev pub kept : ℤ → ℤ
@@ -24,34 +25,22 @@ abbrev pub difference_of : ℤ → ℤ → ℤ
 difference_of x y = x -ℤ y
 
 -- [a, b] + [c, d] is [a + c, b + d]
+abbrev pub add_at : (a b c d : ℤ) → Interval
+add_at a b c d = Span (kept (sum_of a c)) (kept (sum_of b d))
+
 abbrev pub add_raw : Interval → Interval → Interval
-add_raw Empty j = Empty
-add_raw (Span a b) Empty = Empty
-add_raw (Span a b) (Span c d) = Span (kept (sum_of a c)) (kept (sum_of b d))
+add_raw i j = strict add_at i j
 
 -- [a, b] - [c, d] is [a - d, b - c]
+abbrev pub sub_at : (a b c d : ℤ) → Interval
+sub_at a b c d = Span (kept (difference_of a d)) (kept (difference_of b c))
+
 abbrev pub sub_raw : Interval → Interval → Interval
-sub_raw Empty j = Empty
-sub_raw (Span a b) Empty = Empty
-sub_raw (Span a b) (Span c d) = Span (kept (difference_of a d)) (kept (difference_of b c))
+sub_raw i j = strict sub_at i j
 
 -- the raw result met with the range of the type
 abbrev pub typed : Elem → Interval → Interval
 typed t raw = meet raw (range_of t)
-
--- ---- parts of the laws: `op` is the operator on numbers, `a` and `b` are the operands
-
--- each whole-number result of numbers that the operands hold, kept, is in `raw`
-abbrev pub HoldsResults : (ℤ → ℤ → ℤ) → Interval → Interval → Interval → Type 0
-HoldsResults op a b raw = (x y : ℤ) → Holds a x → Holds b y → Holds raw (kept (op x y))
-
--- no smaller interval holds them
-abbrev pub IsLeast : (ℤ → ℤ → ℤ) → Interval → Interval → Interval → Type 0
-IsLeast op a b raw = (j : Interval) → HoldsResults op a b j → IsWithin raw j
-
--- larger operands give no smaller interval
-abbrev pub GrowsWith : (Interval → Interval → Interval) → Interval → Interval → Interval → Type 0
-GrowsWith row a b out = (c d : Interval) → IsWithin a c → IsWithin b d → IsWithin out (row c d)
 
 -- ---- alarms
 

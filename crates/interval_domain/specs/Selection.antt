@@ -1,9 +1,10 @@
--- The operators that choose among numbers, and conversions. Source: IEC 61131-3, selection functions and type conversions; a
--- conversion keeps the number, and a run faults where the type that it converts to doesn't have it.
+-- The operators that choose among numbers, and conversions. Source: IEC 61131-3, selection functions and
+-- type conversions; a conversion keeps the number, and a run faults where the type that it converts to
+-- doesn't have it.
 use Rattle.std.specs.Prelude.{Bool, not, ◌||◌, if◌then◌else◌, ℤ, pos}
 use Rattle.std.specs.Int.{int_max, int_min}
 use Rattle.std.specs.Ordering.{int_eq}
-use Rattle.interval_domain.specs.Interval.{Interval, Empty, Span, Holds, holds, is_within, is_empty, hull}
+use Rattle.interval_domain.specs.Interval.{Interval, Empty, Span, holds, is_within, is_empty, strict, hull}
 
 -- ---- on numbers
 
@@ -23,15 +24,17 @@ chosen g x y = if int_eq g (pos 0) then x else y
 
 -- ---- on intervals: bound by bound
 
+abbrev pub min_at : (a b c d : ℤ) → Interval
+min_at a b c d = Span (int_min a c) (int_min b d)
+
 abbrev pub min_row : Interval → Interval → Interval
-min_row Empty j = Empty
-min_row (Span a b) Empty = Empty
-min_row (Span a b) (Span c d) = Span (int_min a c) (int_min b d)
+min_row i j = strict min_at i j
+
+abbrev pub max_at : (a b c d : ℤ) → Interval
+max_at a b c d = Span (int_max a c) (int_max b d)
 
 abbrev pub max_row : Interval → Interval → Interval
-max_row Empty j = Empty
-max_row (Span a b) Empty = Empty
-max_row (Span a b) (Span c d) = Span (int_max a c) (int_max b d)
+max_row i j = strict max_at i j
 
 abbrev pub limit_row : (mn a mx : Interval) → Interval
 limit_row mn a mx = min_row (max_row a mn) mx
@@ -40,13 +43,9 @@ limit_row mn a mx = min_row (max_row a mn) mx
 abbrev pub given : Bool → Interval → Interval
 given test i = if test then i else Empty
 
--- SEL: the chosen ones joined, or empty where an operand is. The first may be chosen where G may be 0, the second where G may be something else.
+-- SEL: the chosen ones joined, or empty where an operand is. The first may be chosen where G may be 0, the
+-- second where G may be something else.
 abbrev pub sel_row : (g in0 in1 : Interval) → Interval
 sel_row g in0 in1 =
     given (not (is_empty g || is_empty in0 || is_empty in1))
     (hull (given (holds g (pos 0)) in0) (given (not (is_within g (Span (pos 0) (pos 0)))) in1))
-
--- ---- a part of the laws: each result is held
-
-abbrev pub HoldsAll : (ℤ → ℤ → ℤ) → Interval → Interval → Interval → Type 0
-HoldsAll op a b out = (x y : ℤ) → Holds a x → Holds b y → Holds out (op x y)

@@ -1,9 +1,10 @@
--- Shifts and rotations of bit strings, which are read as unsigned numbers of `width` bits. A negative count is 0. Source: IEC
--- 61131-3, bit shift functions; the intervals are this profile's choice. The code works on machine words; here patterns are numbers
--- of any size. The first operand is cut to the patterns of the type first: of a bit string's range nothing is lost by that.
+-- Shifts and rotations of bit strings, which are read as unsigned numbers of `width` bits. A negative count
+-- is 0. Source: IEC 61131-3, bit shift functions; the intervals are this profile's choice. The code works
+-- on machine words; here patterns are numbers of any size. The first operand is cut to the patterns of the
+-- type first: of a bit string's range nothing is lost by that.
 use Rattle.std.specs.Prelude.{ℕ, min, ◌+◌, ◌-◌, ◌*◌, ◌/◌, ◌%◌, ◌^◌, ℤ, pos, negsuc, unsigned_abs}
-use Rattle.interval_domain.specs.Interval.{Interval, Empty, Span, span}
-use Rattle.interval_domain.specs.Bits.{patterns, patterns_in, exact_or}
+use Rattle.interval_domain.specs.Interval.{Interval, span, strict}
+use Rattle.interval_domain.specs.Bits.{patterns, patterns_in, pattern_row}
 
 -- ---- on numbers
 
@@ -37,16 +38,18 @@ ror_of width x n = pos (turned width (unsigned_abs x) (turns width n))
 -- ---- on intervals
 
 -- the low bound by the greatest count, the high bound by the least
+abbrev pub shr_at : (width : ℕ) → (a b c d : ℤ) → Interval
+shr_at width a b c d = span (shr_of width a d) (shr_of width b c)
+
 abbrev pub shr_row : (width : ℕ) → Interval → Interval → Interval
-shr_row width Empty j = Empty
-shr_row width (Span a b) Empty = Empty
-shr_row width (Span a b) (Span c d) = span (shr_of width a d) (shr_of width b c)
+shr_row width i j = strict (shr_at width) i j
 
 -- exact where both operands are single, else any pattern
+abbrev pub any_pattern : (width : ℕ) → (a b c d : ℤ) → Interval
+any_pattern width a b c d = patterns width
+
 abbrev pub moved_row : (ℕ → ℤ → ℤ → ℤ) → (width : ℕ) → Interval → Interval → Interval
-moved_row op width Empty j = Empty
-moved_row op width (Span a b) Empty = Empty
-moved_row op width (Span a b) (Span c d) = exact_or a b c d (op width a c) (patterns width)
+moved_row op width i j = pattern_row (op width) (any_pattern width) i j
 
 abbrev pub shl_row : (width : ℕ) → Interval → Interval → Interval
 shl_row width i j = moved_row shl_of width i j

@@ -16,8 +16,10 @@ span-reversed a b h = let e : int_le a b ≡ false = grind (arith, ints) in rw e
 
 pub low_of-span : (a b : ℤ) → AreBounds a b → low_of (span a b) ≡ a
 low_of-span a b h =
-    by_lt_z b a (λ below. ap low_of (span-reversed a b below) ∙ sym (h below).0) (λ ordered. ap low_of (span-ordered a b ordered))
+    by_lt_z b a (λ below. ap low_of (span-reversed a b below) ∙ sym (h below).0)
+    (λ ordered. ap low_of (span-ordered a b ordered))
 
 pub high_of-span : (a b : ℤ) → AreBounds a b → high_of (span a b) ≡ b
 high_of-span a b h =
-    by_lt_z b a (λ below. ap high_of (span-reversed a b below) ∙ sym (h below).1) (λ ordered. ap high_of (span-ordered a b ordered))
+    by_lt_z b a (λ below. ap high_of (span-reversed a b below) ∙ sym (h below).1)
+    (λ ordered. ap high_of (span-ordered a b ordered))

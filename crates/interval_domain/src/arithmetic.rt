@@ -1,11 +1,11 @@
 // Multiplication, division, remainder, negation and absolute value of intervals.
-ghost use Rattle.std.specs.Prelude.{◌≡◌, ◌≢◌, ◌<◌, ◌≤◌, ◌^◌, pos};
+ghost use Rattle.std.specs.Prelude.{◌≡◌, ◌≢◌, ◌<◌, ◌≤◌, ◌≤ℤ◌, ◌^◌, pos};
 ghost use Rattle.interval_domain.specs.Interval as intervals;
 ghost use Rattle.interval_domain.specs.Operators as rows;
 ghost use Rattle.interval_domain.specs.Arithmetic as arithmetic;
 ghost use Rattle.interval_domain.specs.Laws as laws;
 
-use crate::interval::{Interval, join};
+use crate::interval::{Interval, join, strict, strict_one};
 use crate::operators::{Out, kept, kept_difference, plain, typed};
 use iec_tables::elem::Elem;
 
@@ -23,7 +23,8 @@ pub fn mul(t: Elem, a: Interval, b: Interval) -> Out
     typed(t, mul_bounds(a, b))
 }
 
-/// The quotient of two intervals, truncated towards 0, over all divisors but 0, for the type of the expression.
+/// The quotient of two intervals, truncated towards 0, over all divisors but 0, for the type of the
+/// expression.
 pub fn div(t: Elem, a: Interval, b: Interval) -> Out
     ensures raw { result.raw ≡ arithmetic.div_raw a b }
     ensures result { result.result ≡ rows.typed t (arithmetic.div_raw a b) }
@@ -81,15 +82,18 @@ fn mul_bounds(a: Interval, b: Interval) -> Interval
     ensures value { result ≡ arithmetic.mul_raw a b }
     ensures ordered { intervals.IsOrdered a × intervals.IsOrdered b }
 {
-    match (a.bounds(), b.bounds()) {
-        (Some((a, b)), Some((c, d))) => hull_of(
-            kept_product(a, c),
-            kept_product(a, d),
-            kept_product(b, c),
-            kept_product(b, d),
-        ),
-        _ => Interval::empty(),
-    }
+    strict!(mul_at, a, b)
+}
+
+fn mul_at(a: i128, b: i128, c: i128, d: i128) -> Interval
+    ensures { result ≡ arithmetic.mul_at a b c d }
+{
+    hull_of(
+        kept_product(a, c),
+        kept_product(a, d),
+        kept_product(b, c),
+        kept_product(b, d),
+    )
 }
 
 fn div_bounds(a: Interval, b: Interval) -> Interval
@@ -125,15 +129,20 @@ fn quotients(a: Interval, b: Interval) -> Interval
     ensures value { result ≡ arithmetic.quotients a b }
     ensures ordered { intervals.IsOrdered a }
 {
-    match (a.bounds(), b.bounds()) {
-        (Some((a, b)), Some((c, d))) => hull_of(
-            kept_quotient(a, c),
-            kept_quotient(a, d),
-            kept_quotient(b, c),
-            kept_quotient(b, d),
-        ),
-        _ => Interval::empty(),
-    }
+    strict!(quotients_at, a, b)
+}
+
+fn quotients_at(a: i128, b: i128, c: i128, d: i128) -> Interval
+    requires low { c ≢ pos 0 }
+    requires high { d ≢ pos 0 }
+    ensures { result ≡ arithmetic.quotients_at a b c d }
+{
+    hull_of(
+        kept_quotient(a, c),
+        kept_quotient(a, d),
+        kept_quotient(b, c),
+        kept_quotient(b, d),
+    )
 }
 
 // The least interval that holds four numbers.
@@ -156,7 +165,7 @@ fn kept_quotient(x: i128, y: i128) -> i128
     ensures { result ≡ rows.kept (arithmetic.quotient_of x y) }
 {
     if y == -1 {
-        kept_difference(0, x)
+        kept_negation(x)
     } else {
         kept(x / y)
     }
@@ -166,12 +175,13 @@ fn modulo_bounds(a: Interval, b: Interval) -> Interval
     ensures value { result ≡ arithmetic.modulo_row a b }
     ensures ordered { intervals.IsOrdered b }
 {
-    match (a.bounds(), b.bounds()) {
-        (Some((low, high)), Some((c, d))) => {
-            remainders(low, high, c.unsigned_abs().max(d.unsigned_abs()))
-        },
-        _ => Interval::empty(),
-    }
+    strict!(modulo_at, a, b)
+}
+
+fn modulo_at(a: i128, b: i128, c: i128, d: i128) -> Interval
+    ensures { result ≡ arithmetic.modulo_at a b c d }
+{
+    remainders(a, b, c.unsigned_abs().max(d.unsigned_abs()))
 }
 
 // The remainders of the numbers from the low one to the high one, where divisors have at most that size.
@@ -214,21 +224,47 @@ fn neg_bounds(a: Interval) -> Interval
     ensures value { result ≡ arithmetic.neg_raw a }
     ensures ordered { intervals.IsOrdered a }
 {
-    match a.bounds() {
-        None => Interval::empty(),
-        Some((low, high)) => Interval::of(kept_difference(0, high), kept_difference(0, low)),
-    }
+    strict_one!(neg_at, a)
+}
+
+fn neg_at(a: i128, b: i128) -> Interval
+    requires { a ≤ℤ b }
+    ensures { result ≡ arithmetic.neg_at a b }
+{
+    Interval::ordered(kept_negation(b), kept_negation(a))
 }
 
 fn abs_bounds(a: Interval) -> Interval
     ensures value { result ≡ arithmetic.abs_raw a }
     ensures ordered { intervals.IsOrdered a }
 {
-    match a.bounds() {
-        None => Interval::empty(),
-        Some((low, high)) => Interval::of(
-            low.max(kept_difference(0, high)).max(0),
-            kept_difference(0, low).max(kept(high)),
-        ),
-    }
+    strict_one!(abs_at, a)
+}
+
+fn abs_at(a: i128, b: i128) -> Interval
+    requires { a ≤ℤ b }
+    ensures { result ≡ arithmetic.abs_at a b }
+{
+    Interval::ordered(least_size(a, b), greatest_size(a, b))
+}
+
+// The least size of a number from one to another, kept in the limit of bounds.
+fn least_size(a: i128, b: i128) -> i128
+    ensures { result ≡ rows.kept (arithmetic.least_size a b) }
+{
+    a.max(kept_negation(b)).max(0)
+}
+
+// The greatest one.
+fn greatest_size(a: i128, b: i128) -> i128
+    ensures { result ≡ rows.kept (arithmetic.greatest_size a b) }
+{
+    kept_negation(a).max(kept(b))
+}
+
+// The number with its sign turned round, kept in the limit of bounds.
+fn kept_negation(x: i128) -> i128
+    ensures { result ≡ rows.kept (arithmetic.negation_of x) }
+{
+    kept_difference(0, x)
 }

@@ -1,17 +1,18 @@
 // AND, OR, XOR and NOT of the bit patterns in intervals, BOOL among them.
 ghost use Rattle.std.specs.Prelude.{◌≡◌, pos, ◌≤ℤ◌, ◌-ℤ◌, ◌-◌, ◌^◌};
+ghost use Rattle.std.specs.Int.{int_max, int_min};
 ghost use Rattle.iec_tables.specs.Types.{width_of};
 ghost use Rattle.interval_domain.specs.Interval as intervals;
 ghost use Rattle.interval_domain.specs.Bits as rows;
 ghost use Rattle.interval_domain.specs.Laws as laws;
 
-use crate::interval::Interval;
+use crate::interval::{Interval, strict, strict_one};
 use crate::operators::{Out, plain};
 use crate::widths::{all_ones, patterns_in};
 use iec_tables::elem::Elem;
 
-/// The patterns with the bits that both have. Of each operand only what is patterns of the type counts: for a bit string, all that is
-/// in its range.
+/// The patterns with the bits that both have. Of each operand only what is patterns of the type
+/// counts: for a bit string, all that is in its range.
 pub fn and(t: Elem, a: Interval, b: Interval) -> Out
     ensures raw { result.raw ≡ rows.and_row (rows.patterns_in (width_of t) a)
         (rows.patterns_in (width_of t) b) }
@@ -30,8 +31,8 @@ pub fn and(t: Elem, a: Interval, b: Interval) -> Out
     plain(and_bounds(patterns_in(t, a), patterns_in(t, b)))
 }
 
-/// The patterns with the bits that either has. Of each operand only what is patterns of the type counts: for a bit string, all that is
-/// in its range.
+/// The patterns with the bits that either has. Of each operand only what is patterns of the type
+/// counts: for a bit string, all that is in its range.
 pub fn or(t: Elem, a: Interval, b: Interval) -> Out
     ensures raw { result.raw ≡ rows.or_row (rows.patterns_in (width_of t) a)
         (rows.patterns_in (width_of t) b) }
@@ -50,8 +51,8 @@ pub fn or(t: Elem, a: Interval, b: Interval) -> Out
     plain(or_bounds(patterns_in(t, a), patterns_in(t, b)))
 }
 
-/// The patterns with the bits that one of both has. Of each operand only what is patterns of the type counts: for a bit string, all that is
-/// in its range.
+/// The patterns with the bits that one of both has. Of each operand only what is patterns of the
+/// type counts: for a bit string, all that is in its range.
 pub fn xor(t: Elem, a: Interval, b: Interval) -> Out
     ensures raw { result.raw ≡ rows.xor_row (rows.patterns_in (width_of t) a)
         (rows.patterns_in (width_of t) b) }
@@ -70,8 +71,8 @@ pub fn xor(t: Elem, a: Interval, b: Interval) -> Out
     plain(xor_bounds(patterns_in(t, a), patterns_in(t, b)))
 }
 
-/// The patterns with each bit turned round. Of the operand only what is patterns of the type counts: for a bit string, all that is in
-/// its range.
+/// The patterns with each bit turned round. Of the operand only what is patterns of the type
+/// counts: for a bit string, all that is in its range.
 pub fn not(t: Elem, a: Interval) -> Out
     ensures raw { result.raw ≡ rows.not_row t (rows.patterns_in (width_of t) a) }
     ensures result { result.result ≡ rows.not_row t (rows.patterns_in (width_of t) a) }
@@ -86,53 +87,74 @@ pub fn not(t: Elem, a: Interval) -> Out
 fn and_bounds(a: Interval, b: Interval) -> Interval
     requires left { intervals.IsWithin a rows.words }
     requires right { intervals.IsWithin b rows.words }
-    ensures value { result ≡ rows.and_row a b }
-    ensures ordered { intervals.IsOrdered a × intervals.IsOrdered b }
+    ensures { result ≡ rows.and_row a b }
 {
-    match (a.bounds(), b.bounds()) {
-        (Some((a, b)), Some((c, d))) => {
-            exact_or(a, b, c, d, and_of(a, c), Interval::of(0, b.min(d)))
-        },
-        _ => Interval::empty(),
-    }
+    strict!(and_at, a, b)
+}
+
+fn and_at(a: i128, b: i128, c: i128, d: i128) -> Interval
+    requires left { pos 0 ≤ℤ a }
+    requires right { pos 0 ≤ℤ c }
+    ensures { result ≡ rows.pattern_at rows.and_of rows.and_other a b c d }
+{
+    exact_or(a, b, c, d, and_of(a, c), up_to_lesser(b, d))
 }
 
 fn or_bounds(a: Interval, b: Interval) -> Interval
     requires left { intervals.IsWithin a rows.words }
     requires right { intervals.IsWithin b rows.words }
-    ensures value { result ≡ rows.or_row a b }
-    ensures ordered { intervals.IsOrdered a × intervals.IsOrdered b }
+    ensures { result ≡ rows.or_row a b }
 {
-    match (a.bounds(), b.bounds()) {
-        (Some((a, b)), Some((c, d))) => exact_or(
-            a,
-            b,
-            c,
-            d,
-            or_of(a, c),
-            Interval::of(a.max(c), ones_above(b.max(d))),
-        ),
-        _ => Interval::empty(),
-    }
+    strict!(or_at, a, b)
+}
+
+fn or_at(a: i128, b: i128, c: i128, d: i128) -> Interval
+    requires left { pos 0 ≤ℤ a }
+    requires right { pos 0 ≤ℤ c }
+    requires order { a ≤ℤ b }
+    ensures { result ≡ rows.pattern_at rows.or_of rows.or_other a b c d }
+{
+    exact_or(a, b, c, d, or_of(a, c), up_from_greater(a, b, c, d))
 }
 
 fn xor_bounds(a: Interval, b: Interval) -> Interval
     requires left { intervals.IsWithin a rows.words }
     requires right { intervals.IsWithin b rows.words }
-    ensures value { result ≡ rows.xor_row a b }
-    ensures ordered { intervals.IsOrdered a × intervals.IsOrdered b }
+    ensures { result ≡ rows.xor_row a b }
 {
-    match (a.bounds(), b.bounds()) {
-        (Some((a, b)), Some((c, d))) => exact_or(
-            a,
-            b,
-            c,
-            d,
-            xor_of(a, c),
-            Interval::of(0, ones_above(b.max(d))),
-        ),
-        _ => Interval::empty(),
-    }
+    strict!(xor_at, a, b)
+}
+
+fn xor_at(a: i128, b: i128, c: i128, d: i128) -> Interval
+    requires left { pos 0 ≤ℤ a }
+    requires right { pos 0 ≤ℤ c }
+    requires order { a ≤ℤ b }
+    ensures { result ≡ rows.pattern_at rows.xor_of rows.xor_other a b c d }
+{
+    exact_or(a, b, c, d, xor_of(a, c), up_to_ones(b, d))
+}
+
+// From 0 to the lesser of two numbers.
+fn up_to_lesser(b: i128, d: i128) -> Interval
+    ensures { result ≡ intervals.span (pos 0) (int_min b d) }
+{
+    Interval::of(0, b.min(d))
+}
+
+// From the greater of two numbers to the ones above the greater of two others.
+fn up_from_greater(a: i128, b: i128, c: i128, d: i128) -> Interval
+    requires { pos 0 ≤ℤ b }
+    ensures { result ≡ intervals.span (int_max a c) (rows.ones_above (int_max b d)) }
+{
+    Interval::of(a.max(c), ones_above(b.max(d)))
+}
+
+// From 0 to the ones above the greater of two numbers.
+fn up_to_ones(b: i128, d: i128) -> Interval
+    requires { pos 0 ≤ℤ b }
+    ensures { result ≡ intervals.span (pos 0) (rows.ones_above (int_max b d)) }
+{
+    Interval::of(0, ones_above(b.max(d)))
 }
 
 fn not_bounds(ones: i128, a: Interval) -> Interval
@@ -140,10 +162,16 @@ fn not_bounds(ones: i128, a: Interval) -> Interval
     requires within { intervals.IsWithin a (intervals.Span (pos 0) ones) }
     ensures { result ≡ rows.mirrored ones a }
 {
-    match a.bounds() {
-        None => Interval::empty(),
-        Some((low, high)) => Interval::of(turned_bits(ones, high), turned_bits(ones, low)),
-    }
+    strict_one!(not_at, a, ones)
+}
+
+fn not_at(ones: i128, a: i128, b: i128) -> Interval
+    requires low { pos 0 ≤ℤ a }
+    requires order { a ≤ℤ b }
+    requires high { b ≤ℤ ones }
+    ensures { result ≡ rows.mirrored_at ones a b }
+{
+    Interval::ordered(turned_bits(ones, b), turned_bits(ones, a))
 }
 
 fn turned_bits(ones: i128, number: i128) -> i128
@@ -189,7 +217,8 @@ fn xor_of(x: i128, y: i128) -> i128
     (x as u128 ^ y as u128) as i128
 }
 
-/// The least number whose digits in base 2 are all 1 that is not below a number from 0 on: the upper bound of OR and XOR.
+/// The least number whose digits in base 2 are all 1 that is not below a number from 0 on: the
+/// upper bound of OR and XOR.
 pub fn ones_above(z: i128) -> i128
     requires { pos 0 ≤ℤ z }
     ensures value { result ≡ rows.ones_above z }

@@ -5,7 +5,7 @@ ghost use Rattle.std.specs.Ordering.{int_eq};
 ghost use Rattle.interval_domain.specs.Interval as intervals;
 ghost use Rattle.interval_domain.specs.Comparison as comparison;
 
-use crate::interval::Interval;
+use crate::interval::{Interval, strict};
 use crate::relation::{Compare, Flags, opposite};
 use iec_tables::elem::Elem;
 
@@ -28,10 +28,7 @@ pub fn cut(op: Compare, own: Interval, other: Interval) -> Interval
     ensures value { result ≡ comparison.cut_row op own other }
     ensures laws { comparison.MeetsCutLaws op own other result }
 {
-    match (own.bounds(), other.bounds()) {
-        (Some((a, b)), Some((c, d))) => cut_bounds(op, a, b, c, d),
-        _ => Interval::empty(),
-    }
+    strict!(cut_bounds, own, other, op)
 }
 
 fn may_hold(op: Compare, a: Interval, b: Interval) -> bool

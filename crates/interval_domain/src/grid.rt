@@ -1,14 +1,15 @@
 // The grid to whose numbers the bounds of intervals are rounded.
-ghost use Rattle.std.specs.Prelude.{◌≡◌, IfOk, OnOk, ◌++◌, ◌∷◌, [], take};
-ghost use Rattle.std.specs.List.{list_any};
+ghost use Rattle.std.specs.Prelude.{◌≡◌, ◌||◌, IfOk, OnOk, ◌++◌, ◌∷◌, [], take, map};
+ghost use Rattle.std.specs.List.{flat_map, list_any};
 ghost use Rattle.std.specs.List.Sorted.{IsStrictlySortedBy};
-ghost use Rattle.std.specs.Ordering.{int_cmp};
+ghost use Rattle.std.specs.Ordering.{int_cmp, int_eq};
 ghost use Rattle.interval_domain.specs.Interval as intervals;
 ghost use Rattle.interval_domain.specs.Operators as rows;
 ghost use Rattle.interval_domain.specs.Grid as grids;
 
 use crate::interval::Interval;
 use crate::operators::{kept, kept_difference, kept_sum};
+use crate::widths::TYPES;
 use iec_tables::elem::{Elem, high, low};
 use station_ports::outside::NoMemory;
 use std::alloc::{AllocError, Global};
@@ -17,24 +18,8 @@ use std::marker::Model;
 /// The most numbers of a grid besides the bounds of types.
 const LIMIT: usize = 1024;
 
-const TYPES: [Elem; 14] = [
-    Elem::Sint,
-    Elem::Int,
-    Elem::Dint,
-    Elem::Lint,
-    Elem::Usint,
-    Elem::Uint,
-    Elem::Udint,
-    Elem::Ulint,
-    Elem::Bool,
-    Elem::Byte,
-    Elem::Word,
-    Elem::Dword,
-    Elem::Lword,
-    Elem::Time,
-];
-
-/// A rising list of numbers, the least and the greatest number of all types among them. To contracts it is that list.
+/// A rising list of numbers, the least and the greatest number of all types among them. To
+/// contracts it is that list.
 #[derive(Drop)]
 pub struct Grid {
     numbers: Vec<i128>,
@@ -52,8 +37,9 @@ impl Model for Grid {
 }
 
 impl Grid {
-    /// The grid for these literals, in time of sorting them: the bounds of all types, and at most 1,024 others of -1 and of
-    /// each literal with its two neighbours, which are those of least size, the negative first of two.
+    /// The grid for these literals, in time of sorting them: the bounds of all types, and at most
+    /// 1,024 others of -1 and of each literal with its two neighbours, which are those of least
+    /// size, the negative first of two.
     pub fn of(alloc: Global, literals: &[i128]) -> Result<Grid, NoMemory>
         ensures { IfOk result (λ grid. grids.IsGrid literals.now grid) }
     {
@@ -61,8 +47,8 @@ impl Grid {
         Ok(Grid { numbers })
     }
 
-    /// Moves each bound outward to the nearest number of the grid. The empty interval stays, and so does a bound beyond the
-    /// numbers of all types.
+    /// Moves each bound outward to the nearest number of the grid. The empty interval stays, and so
+    /// does a bound beyond the numbers of all types.
     pub fn round(&self, i: Interval) -> Interval
         ensures value { result ≡ grids.rounded self.now i }
         ensures wider { intervals.IsWithin i result }
@@ -111,13 +97,20 @@ fn grid_numbers(alloc: Global, literals: &[i128]) -> Result<Vec<i128>, AllocErro
     ensures { IfOk result (λ numbers. grids.IsGrid literals.now numbers.items) }
 {
     let ranks = first_ranks(alloc, literals)?;
-    let mut numbers = type_bounds(alloc)?;
-    for rank in &ranks {
-        numbers.push(number_of(*rank))?;
-    }
+    let mut numbers = bounds_of_all(alloc, &TYPES)?;
+    push_numbers(&mut numbers, &ranks)?;
     numbers.sort()?;
     numbers.dedup();
     Ok(numbers)
+}
+
+fn push_numbers(numbers: &mut Vec<i128>, ranks: &[u128]) -> Result<(), AllocError>
+    ensures { OnOk result (numbers.new.items ≡ numbers.old.items ++ map grids.number_of ranks.now) }
+{
+    for rank in ranks {
+        numbers.push(number_of(*rank))?;
+    }
+    Ok(())
 }
 
 // The first ranks of the candidates that are no bound of a type.
@@ -154,18 +147,30 @@ fn push_neighbours(ranks: &mut Vec<u128>, literal: i128) -> Result<(), AllocErro
 fn push_rank(ranks: &mut Vec<u128>, number: i128) -> Result<(), AllocError>
     ensures { OnOk result (ranks.new.items ≡ ranks.old.items ++ grids.ranks_of (number ∷ [])) }
 {
-    if !is_type_bound(number) {
+    if is_type_bound(number) {
+        Ok(())
+    } else {
         ranks.push(rank_of(number))?;
+        Ok(())
     }
-    Ok(())
 }
 
 fn is_type_bound(number: i128) -> bool
     ensures { result ≡ list_any (grids.is_bound_of number) grids.all_types }
 {
-    TYPES
-        .iter()
-        .any(|t| low(*t) == number || high(*t) == number)
+    TYPES.iter().any(|t| is_bound_of(number, *t))
+}
+
+fn is_bound_of(number: i128, t: Elem) -> bool
+    ensures { result ≡ grids.is_bound_of number t }
+{
+    is_either(number, low(t), high(t))
+}
+
+fn is_either(number: i128, first: i128, second: i128) -> bool
+    ensures { result ≡ (int_eq first number || int_eq second number) }
+{
+    first == number || second == number
 }
 
 fn rank_of(number: i128) -> u128
@@ -182,16 +187,24 @@ fn number_of(rank: u128) -> i128
     ensures { result ≡ grids.number_of rank }
 {
     let half = (rank / 2) as i128;
-    if rank % 2 == 0 { half } else { -half - 1 }
+    if rank % 2 == 0 { half } else { -1 - half }
 }
 
-fn type_bounds(alloc: Global) -> Result<Vec<i128>, AllocError>
-    ensures { IfOk result (λ numbers. numbers.items ≡ grids.type_bounds) }
+// The least and the greatest number of each of the types.
+fn bounds_of_all(alloc: Global, types: &[Elem]) -> Result<Vec<i128>, AllocError>
+    ensures { IfOk result (λ numbers. numbers.items ≡ flat_map grids.bounds_of types.now) }
 {
     let mut numbers = Vec::new(alloc);
-    for t in &TYPES {
-        numbers.push(low(*t))?;
-        numbers.push(high(*t))?;
+    for t in types {
+        push_bounds(&mut numbers, *t)?;
     }
     Ok(numbers)
+}
+
+fn push_bounds(numbers: &mut Vec<i128>, t: Elem) -> Result<(), AllocError>
+    ensures { OnOk result (numbers.new.items ≡ numbers.old.items ++ grids.bounds_of t) }
+{
+    numbers.push(low(t))?;
+    numbers.push(high(t))?;
+    Ok(())
 }

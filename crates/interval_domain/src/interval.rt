@@ -4,7 +4,8 @@ ghost use Rattle.interval_domain.specs.Interval as intervals;
 
 use std::marker::Model;
 
-/// All whole numbers from a low bound to a high one, or none. To contracts it is the empty interval or a span of two bounds.
+/// All whole numbers from a low bound to a high one, or none. To contracts it is the empty interval
+/// or a span of two bounds.
 #[derive(Clone, Copy, Debug, PartialEq, Eq)]
 pub struct Interval {
     low: i128,
@@ -42,6 +43,14 @@ impl Interval {
             low: value,
             high: value,
         }
+    }
+
+    /// From the low bound to the high one, which is not below it.
+    pub(crate) fn ordered(low: i128, high: i128) -> Self
+        requires { low ≤ℤ high }
+        ensures { result ≡ intervals.Span low high }
+    {
+        Interval { low, high }
     }
 
     /// From the low bound to the high one, or empty where the first is above the second.
@@ -97,6 +106,30 @@ impl Interval {
     }
 }
 
+// What a function gives for the bounds of an interval: empty where it is. Arguments behind the
+// interval go before the bounds.
+macro_rules! strict_one {
+    ($at:ident, $a:expr $(, $more:expr)*) => {
+        match $a.bounds() {
+            Some((low, high)) => $at($($more,)* low, high),
+            None => Interval::empty(),
+        }
+    };
+}
+
+// The same of two intervals.
+macro_rules! strict {
+    ($at:ident, $a:expr, $b:expr $(, $more:expr)*) => {
+        match ($a.bounds(), $b.bounds()) {
+            (Some((a, b)), Some((c, d))) => $at($($more,)* a, b, c, d),
+            _ => Interval::empty(),
+        }
+    };
+}
+
+pub(crate) use strict;
+pub(crate) use strict_one;
+
 /// The least interval that holds what either holds.
 pub fn join(a: Interval, b: Interval) -> Interval
     ensures { result ≡ intervals.hull a b }
@@ -104,7 +137,7 @@ pub fn join(a: Interval, b: Interval) -> Interval
     match (a.bounds(), b.bounds()) {
         (None, _) => b,
         (Some(_), None) => a,
-        (Some((low, high)), Some((c, d))) => Interval::of(low.min(c), high.max(d)),
+        (Some((low, high)), Some((c, d))) => Interval::ordered(low.min(c), high.max(d)),
     }
 }
 
@@ -112,8 +145,19 @@ pub fn join(a: Interval, b: Interval) -> Interval
 pub fn meet(a: Interval, b: Interval) -> Interval
     ensures { result ≡ intervals.meet a b }
 {
-    match (a.bounds(), b.bounds()) {
-        (Some((low, high)), Some((c, d))) => Interval::of(low.max(c), high.min(d)),
-        _ => Interval::empty(),
-    }
+    common(a, b)
+}
+
+/// The same, with what is known of an interval's bounds.
+pub(crate) fn common(a: Interval, b: Interval) -> Interval
+    ensures value { result ≡ intervals.meet a b }
+    ensures ordered { intervals.IsOrdered a }
+{
+    strict!(meet_at, a, b)
+}
+
+fn meet_at(a: i128, b: i128, c: i128, d: i128) -> Interval
+    ensures { result ≡ intervals.meet_at a b c d }
+{
+    Interval::of(a.max(c), b.min(d))
 }

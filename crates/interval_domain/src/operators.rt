@@ -1,14 +1,16 @@
 // Operators on intervals, and the alarms of their results.
-ghost use Rattle.std.specs.Prelude.{◌≡◌};
+ghost use Rattle.std.specs.Prelude.{◌≡◌, ◌≤ℤ◌};
+ghost use Rattle.interval_domain.specs.Interval.{IsOrdered};
 ghost use Rattle.interval_domain.specs.Operators as rows;
 ghost use Rattle.interval_domain.specs.Laws as laws;
 
-use crate::interval::{Interval, meet};
+use crate::interval::{Interval, common, strict};
 use iec_tables::elem::{Elem, high, low};
 use iec_tables::kind::Kind;
 
-/// What an operator gives: the result, within the type, and the raw one, which alarms look at. Where results may leave the type, the raw one is the least
-/// interval of all whole-number results; for the other operators it is the result.
+/// What an operator gives: the result, within the type, and the raw one, which alarms look at.
+/// Where results may leave the type, the raw one is the least interval of all whole-number results;
+/// for the other operators it is the result.
 #[derive(Clone, Copy, Debug, PartialEq, Eq)]
 pub struct Out {
     pub raw: Interval,
@@ -51,8 +53,8 @@ pub fn sub(t: Elem, a: Interval, b: Interval) -> Out
     typed(t, sub_bounds(a, b))
 }
 
-/// Whether a value raises an alarm of that kind: for a zero divisor where the divisor may be 0, whatever is allowed, else
-/// where the value may leave what is allowed.
+/// Whether a value raises an alarm of that kind: for a zero divisor where the divisor may be 0,
+/// whatever is allowed, else where the value may leave what is allowed.
 pub fn alarm(kind: Kind, value: Interval, allowed: Interval) -> bool
     ensures { result ≡ rows.is_alarmed kind value allowed }
 {
@@ -66,10 +68,11 @@ pub fn alarm(kind: Kind, value: Interval, allowed: Interval) -> bool
 pub(crate) fn typed(t: Elem, raw: Interval) -> Out
     ensures raw { result.raw ≡ raw }
     ensures result { result.result ≡ rows.typed t raw }
+    ensures ordered { IsOrdered raw }
 {
     Out {
         raw,
-        result: meet(raw, range_of(t)),
+        result: common(raw, range_of(t)),
     }
 }
 
@@ -86,22 +89,32 @@ pub(crate) fn plain(interval: Interval) -> Out
 
 fn add_bounds(a: Interval, b: Interval) -> Interval
     ensures value { result ≡ rows.add_raw a b }
-    ensures least { rows.IsLeast rows.sum_of a b result }
+    ensures ordered { IsOrdered a × IsOrdered b }
 {
-    match (a.bounds(), b.bounds()) {
-        (Some((a, b)), Some((c, d))) => Interval::of(kept_sum(a, c), kept_sum(b, d)),
-        _ => Interval::empty(),
-    }
+    strict!(add_at, a, b)
+}
+
+fn add_at(a: i128, b: i128, c: i128, d: i128) -> Interval
+    requires left { a ≤ℤ b }
+    requires right { c ≤ℤ d }
+    ensures { result ≡ rows.add_at a b c d }
+{
+    Interval::ordered(kept_sum(a, c), kept_sum(b, d))
 }
 
 fn sub_bounds(a: Interval, b: Interval) -> Interval
     ensures value { result ≡ rows.sub_raw a b }
-    ensures least { rows.IsLeast rows.difference_of a b result }
+    ensures ordered { IsOrdered a × IsOrdered b }
 {
-    match (a.bounds(), b.bounds()) {
-        (Some((a, b)), Some((c, d))) => Interval::of(kept_difference(a, d), kept_difference(b, c)),
-        _ => Interval::empty(),
-    }
+    strict!(sub_at, a, b)
+}
+
+fn sub_at(a: i128, b: i128, c: i128, d: i128) -> Interval
+    requires left { a ≤ℤ b }
+    requires right { c ≤ℤ d }
+    ensures { result ≡ rows.sub_at a b c d }
+{
+    Interval::ordered(kept_difference(a, d), kept_difference(b, c))
 }
 
 // The number, kept in the limit of bounds.

@@ -1,11 +1,11 @@
 // Minimum, maximum, limit, selection and conversion of intervals.
-ghost use Rattle.std.specs.Prelude.{◌≡◌, ◌||◌};
+ghost use Rattle.std.specs.Prelude.{◌≡◌, ◌||◌, ◌≤ℤ◌};
 ghost use Rattle.interval_domain.specs.Interval.{is_empty};
 ghost use Rattle.interval_domain.specs.Operators as rows;
 ghost use Rattle.interval_domain.specs.Selection as selection;
 ghost use Rattle.interval_domain.specs.Laws as laws;
 
-use crate::interval::{Interval, join};
+use crate::interval::{Interval, join, strict};
 use crate::operators::{Out, plain, typed};
 use iec_tables::elem::Elem;
 
@@ -45,8 +45,8 @@ pub fn limit(_t: Elem, mn: Interval, a: Interval, mx: Interval) -> Out
     plain(min_bounds(max_bounds(a, mn), mx))
 }
 
-/// The second interval where the first may be FALSE, which is 0, joined with the third where it may be something else. An empty operand gives the empty
-/// interval, also one that is not chosen.
+/// The second interval where the first may be FALSE, which is 0, joined with the third where it may
+/// be something else. An empty operand gives the empty interval, also one that is not chosen.
 pub fn sel(_t: Elem, g: Interval, in0: Interval, in1: Interval) -> Out
     ensures raw { result.raw ≡ selection.sel_row g in0 in1 }
     ensures result { result.result ≡ selection.sel_row g in0 in1 }
@@ -58,11 +58,13 @@ pub fn sel(_t: Elem, g: Interval, in0: Interval, in1: Interval) -> Out
     plain(chosen(g, in0, in1))
 }
 
-/// The numbers of the interval that the second type has. The raw result is the interval.
+/// The numbers of the interval that the second type has. The raw result is the interval: the least
+/// that holds all of them.
 pub fn convert(_from: Elem, to: Elem, a: Interval) -> Out
     ensures raw { result.raw ≡ a }
     ensures result { result.result ≡ rows.typed to a }
     ensures sound { laws.IsSound (laws.of_one laws.same a) laws.same (laws.fits to) result.raw result.result }
+    ensures best { laws.IsBest (laws.of_one laws.same a) laws.same result.raw }
     ensures monotone { laws.IsMonotone (laws.with_one laws.whole (λ c. rows.typed to c) a) result.raw
         result.result }
 {
@@ -72,19 +74,29 @@ pub fn convert(_from: Elem, to: Elem, a: Interval) -> Out
 fn min_bounds(a: Interval, b: Interval) -> Interval
     ensures { result ≡ selection.min_row a b }
 {
-    match (a.bounds(), b.bounds()) {
-        (Some((low, high)), Some((c, d))) => Interval::of(low.min(c), high.min(d)),
-        _ => Interval::empty(),
-    }
+    strict!(min_at, a, b)
+}
+
+fn min_at(a: i128, b: i128, c: i128, d: i128) -> Interval
+    requires left { a ≤ℤ b }
+    requires right { c ≤ℤ d }
+    ensures { result ≡ selection.min_at a b c d }
+{
+    Interval::ordered(a.min(c), b.min(d))
 }
 
 fn max_bounds(a: Interval, b: Interval) -> Interval
     ensures { result ≡ selection.max_row a b }
 {
-    match (a.bounds(), b.bounds()) {
-        (Some((low, high)), Some((c, d))) => Interval::of(low.max(c), high.max(d)),
-        _ => Interval::empty(),
-    }
+    strict!(max_at, a, b)
+}
+
+fn max_at(a: i128, b: i128, c: i128, d: i128) -> Interval
+    requires left { a ≤ℤ b }
+    requires right { c ≤ℤ d }
+    ensures { result ≡ selection.max_at a b c d }
+{
+    Interval::ordered(a.max(c), b.max(d))
 }
 
 fn chosen(g: Interval, in0: Interval, in1: Interval) -> Interval

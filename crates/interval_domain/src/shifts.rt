@@ -7,13 +7,13 @@ ghost use Rattle.interval_domain.specs.Shifts as rows;
 ghost use Rattle.interval_domain.specs.Laws as laws;
 
 use crate::bits::exact_or;
-use crate::interval::Interval;
+use crate::interval::{Interval, strict};
 use crate::operators::{Out, plain};
 use crate::widths::{patterns, patterns_in, power, width};
 use iec_tables::elem::Elem;
 
-/// The patterns moved up by the counts. Of the first operand only what is patterns of the type counts: for a bit string, all that
-/// is in its range.
+/// The patterns moved up by the counts. Of the first operand only what is patterns of the type
+/// counts: for a bit string, all that is in its range.
 pub fn shl(t: Elem, a: Interval, n: Interval) -> Out
     ensures raw { result.raw ≡ rows.shl_row (types.width_of t) (bits.patterns_in (types.width_of t) a) n }
     ensures result { result.result ≡ rows.shl_row (types.width_of t)
@@ -28,8 +28,8 @@ pub fn shl(t: Elem, a: Interval, n: Interval) -> Out
     plain(shl_bounds(width(t), patterns_in(t, a), n))
 }
 
-/// The patterns moved down by the counts. Of the first operand only what is patterns of the type counts: for a bit string, all that
-/// is in its range.
+/// The patterns moved down by the counts. Of the first operand only what is patterns of the type
+/// counts: for a bit string, all that is in its range.
 pub fn shr(t: Elem, a: Interval, n: Interval) -> Out
     ensures raw { result.raw ≡ rows.shr_row (types.width_of t) (bits.patterns_in (types.width_of t) a) n }
     ensures result { result.result ≡ rows.shr_row (types.width_of t)
@@ -44,8 +44,8 @@ pub fn shr(t: Elem, a: Interval, n: Interval) -> Out
     plain(shr_bounds(width(t), patterns_in(t, a), n))
 }
 
-/// The patterns turned up by the counts. Of the first operand only what is patterns of the type counts: for a bit string, all that
-/// is in its range.
+/// The patterns turned up by the counts. Of the first operand only what is patterns of the type
+/// counts: for a bit string, all that is in its range.
 pub fn rol(t: Elem, a: Interval, n: Interval) -> Out
     ensures raw { result.raw ≡ rows.rol_row (types.width_of t) (bits.patterns_in (types.width_of t) a) n }
     ensures result { result.result ≡ rows.rol_row (types.width_of t)
@@ -60,8 +60,8 @@ pub fn rol(t: Elem, a: Interval, n: Interval) -> Out
     plain(rol_bounds(width(t), patterns_in(t, a), n))
 }
 
-/// The patterns turned down by the counts. Of the first operand only what is patterns of the type counts: for a bit string, all that
-/// is in its range.
+/// The patterns turned down by the counts. Of the first operand only what is patterns of the type
+/// counts: for a bit string, all that is in its range.
 pub fn ror(t: Elem, a: Interval, n: Interval) -> Out
     ensures raw { result.raw ≡ rows.ror_row (types.width_of t) (bits.patterns_in (types.width_of t) a) n }
     ensures result { result.result ≡ rows.ror_row (types.width_of t)
@@ -79,33 +79,36 @@ pub fn ror(t: Elem, a: Interval, n: Interval) -> Out
 fn shr_bounds(width: u32, a: Interval, n: Interval) -> Interval
     requires few { width ≤ 64 }
     requires within { intervals.IsWithin a (bits.patterns width) }
-    ensures value { result ≡ rows.shr_row width a n }
-    ensures ordered { intervals.IsOrdered a }
+    ensures { result ≡ rows.shr_row width a n }
 {
-    match (a.bounds(), n.bounds()) {
-        (Some((a, b)), Some((c, d))) => Interval::of(shr_of(width, a, d), shr_of(width, b, c)),
-        _ => Interval::empty(),
-    }
+    strict!(shr_at, a, n, width)
 }
 
-macro_rules! moved_bounds {
-    ($op:ident, $width:ident, $a:ident, $n:ident) => {
-        match ($a.bounds(), $n.bounds()) {
-            (Some((a, b)), Some((c, d))) => {
-                exact_or(a, b, c, d, $op($width, a, c), patterns($width))
-            },
-            _ => Interval::empty(),
-        }
-    };
+fn shr_at(width: u32, a: i128, b: i128, c: i128, d: i128) -> Interval
+    requires few { width ≤ 64 }
+    requires low { pos 0 ≤ℤ a }
+    requires order { a ≤ℤ b }
+    ensures { result ≡ rows.shr_at width a b c d }
+{
+    Interval::of(shr_of(width, a, d), shr_of(width, b, c))
 }
 
 fn shl_bounds(width: u32, a: Interval, n: Interval) -> Interval
     requires few { width ≤ 64 }
     requires within { intervals.IsWithin a (bits.patterns width) }
     ensures value { result ≡ rows.shl_row width a n }
-    ensures ordered { intervals.IsOrdered a × intervals.IsOrdered n }
+    ensures ordered { intervals.IsOrdered n }
 {
-    moved_bounds!(shl_of, width, a, n)
+    strict!(shl_at, a, n, width)
+}
+
+fn shl_at(width: u32, a: i128, b: i128, c: i128, d: i128) -> Interval
+    requires few { width ≤ 64 }
+    requires low { pos 0 ≤ℤ a }
+    requires high { a ≤ℤ pos (2 ^ width - 1) }
+    ensures { result ≡ bits.pattern_at (rows.shl_of width) (rows.any_pattern width) a b c d }
+{
+    exact_or(a, b, c, d, shl_of(width, a, c), patterns(width))
 }
 
 fn rol_bounds(width: u32, a: Interval, n: Interval) -> Interval
@@ -113,9 +116,19 @@ fn rol_bounds(width: u32, a: Interval, n: Interval) -> Interval
     requires few { width ≤ 64 }
     requires within { intervals.IsWithin a (bits.patterns width) }
     ensures value { result ≡ rows.rol_row width a n }
-    ensures ordered { intervals.IsOrdered a × intervals.IsOrdered n }
+    ensures ordered { intervals.IsOrdered n }
 {
-    moved_bounds!(rol_of, width, a, n)
+    strict!(rol_at, a, n, width)
+}
+
+fn rol_at(width: u32, a: i128, b: i128, c: i128, d: i128) -> Interval
+    requires some { 0 < width }
+    requires few { width ≤ 64 }
+    requires low { pos 0 ≤ℤ a }
+    requires high { a ≤ℤ pos (2 ^ width - 1) }
+    ensures { result ≡ bits.pattern_at (rows.rol_of width) (rows.any_pattern width) a b c d }
+{
+    exact_or(a, b, c, d, rol_of(width, a, c), patterns(width))
 }
 
 fn ror_bounds(width: u32, a: Interval, n: Interval) -> Interval
@@ -123,9 +136,19 @@ fn ror_bounds(width: u32, a: Interval, n: Interval) -> Interval
     requires few { width ≤ 64 }
     requires within { intervals.IsWithin a (bits.patterns width) }
     ensures value { result ≡ rows.ror_row width a n }
-    ensures ordered { intervals.IsOrdered a × intervals.IsOrdered n }
+    ensures ordered { intervals.IsOrdered n }
 {
-    moved_bounds!(ror_of, width, a, n)
+    strict!(ror_at, a, n, width)
+}
+
+fn ror_at(width: u32, a: i128, b: i128, c: i128, d: i128) -> Interval
+    requires some { 0 < width }
+    requires few { width ≤ 64 }
+    requires low { pos 0 ≤ℤ a }
+    requires high { a ≤ℤ pos (2 ^ width - 1) }
+    ensures { result ≡ bits.pattern_at (rows.ror_of width) (rows.any_pattern width) a b c d }
+{
+    exact_or(a, b, c, d, ror_of(width, a, c), patterns(width))
 }
 
 fn shl_of(width: u32, x: i128, n: i128) -> i128

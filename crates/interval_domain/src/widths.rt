@@ -7,19 +7,42 @@ ghost use Rattle.interval_domain.specs.Bits as rows;
 use crate::interval::{Interval, meet};
 use iec_tables::elem::Elem;
 
+// The types in the order of `Elem`, each with its bits: what goes through all types is written by a
+// macro over these.
+macro_rules! over_types {
+    ($write:ident $(, $of:expr)?) => {
+        $write!(
+            $($of;)?
+            Sint 8, Int 16, Dint 32, Lint 64, Usint 8, Uint 16, Udint 32, Ulint 64, Bool 1, Byte 8, Word 16,
+            Dword 32, Lword 64, Time 64
+        )
+    };
+}
+
+macro_rules! bits_of {
+    ($t:expr; $($elem:ident $bits:literal),*) => {
+        match $t {
+            $(Elem::$elem => $bits,)*
+        }
+    };
+}
+
+macro_rules! all_of {
+    ($($elem:ident $bits:literal),*) => {
+        [$(Elem::$elem),*]
+    };
+}
+
+/// All types.
+pub(crate) const TYPES: [Elem; 14] = over_types!(all_of);
+
 /// How many bits a type has.
 pub fn width(t: Elem) -> u32
     ensures value { result ≡ width_of t }
     ensures some { 0 < result }
     ensures few { result ≤ 64 }
 {
-    match t {
-        Elem::Bool => 1,
-        Elem::Sint | Elem::Usint | Elem::Byte => 8,
-        Elem::Int | Elem::Uint | Elem::Word => 16,
-        Elem::Dint | Elem::Udint | Elem::Dword => 32,
-        Elem::Lint | Elem::Ulint | Elem::Lword | Elem::Time => 64,
-    }
+    over_types!(bits_of, t)
 }
 
 /// The number whose bits are all 1.

@@ -1,7 +1,8 @@
--- Systems over a finite grid, their closed tables and the least of them. Source: interval analysis, in which the least fixpoint of a
--- monotone operator is the least table that holds what the operator gives for it. The code evaluates units until nothing grows; here no
--- unit comes before another and nothing is done again.
-use Rattle.std.specs.Prelude.{◌≡◌, ℕ, ◌*◌, ◌<◌, ◌≤◌, ◌⊎◌, Bool, true, List, length, get_or, ℤ}
+-- Systems over a finite grid, their closed tables and the least of them. Source: interval analysis, in
+-- which the least fixpoint of a monotone operator is the least table that holds what the operator gives for
+-- it. The code evaluates units until nothing grows; here no unit comes before another and nothing is done
+-- again.
+use Rattle.std.specs.Prelude.{◌≡◌, ℕ, ◌+◌, ◌*◌, ◌<◌, ◌≤◌, ◌⊎◌, Bool, true, List, [], ◌∷◌, length, get_or, replicate, ℤ}
 use Rattle.std.specs.List.{filter, range_with_len, sum_by}
 use Rattle.std.specs.List.Sorted.{IsStrictlySortedBy}
 use Rattle.std.specs.Ordering.{int_cmp}
@@ -12,8 +13,8 @@ use Rattle.interval_domain.specs.Grid.{IsOnGrid}
 abbrev pub Intervals : Type 0
 Intervals = List Interval
 
--- What a system means: its grid, the widest interval of each entry, how many units it has, what a unit gives under a table for an entry,
--- and which entries it reads.
+-- What a system means: its grid, the widest interval of each entry, how many units it has, what a unit
+-- gives under a table for an entry, and which entries it reads.
 pub record Meaning : Type 0 where
   pub grid : List ℤ
   pub widest : List Interval
@@ -45,33 +46,57 @@ pub record IsTable (m : Meaning) (table : List Interval) : Type 0 where
 
 -- two tables agree on the entries that a unit reads
 abbrev pub AgreeFor : Meaning → ℕ → List Interval → List Interval → Type 0
-AgreeFor m unit table other = (entry : ℕ) → entry < length m.widest → m.reads unit entry ≡ true → at table entry ≡ at other entry
+AgreeFor m unit table other =
+    (entry : ℕ) → entry < length m.widest → m.reads unit entry ≡ true → at table entry ≡ at other entry
 
--- The law of a system. The grid rises; the widest intervals are ordered and on it, and so is what a unit gives under a table, which lies in the
--- widest interval. Under a larger table no unit gives less, and under two tables that agree on the entries that a unit reads it gives the same.
+-- The law of a system. The grid rises; the widest intervals are ordered and on it, and so is what a unit
+-- gives under a table, which lies in the widest interval. Under a larger table no unit gives less, and
+-- under two tables that agree on the entries that a unit reads it gives the same.
 pub record IsMonotone (m : Meaning) : Type 0 where
   pub rising : IsStrictlySortedBy int_cmp m.grid
   pub widest_ordered : AreOrdered m.widest
   pub widest_on_grid : AreOnGrid m.grid m.widest
-  pub ordered : (unit : ℕ) (table : List Interval) → unit < m.units → IsTable m table → (entry : ℕ) → entry < length m.widest → IsOrdered (m.gives unit table entry)
-  pub on_grid : (unit : ℕ) (table : List Interval) → unit < m.units → IsTable m table → (entry : ℕ) → entry < length m.widest → IsOnGrid m.grid (m.gives unit table entry)
-  pub within : (unit : ℕ) (table : List Interval) → unit < m.units → IsTable m table → (entry : ℕ) → entry < length m.widest → IsWithin (m.gives unit table entry) (at m.widest entry)
-  pub larger : (unit : ℕ) (table other : List Interval) → unit < m.units → IsTable m table → IsTable m other → AreWithin table other → (entry : ℕ) → entry < length m.widest → IsWithin (m.gives unit table entry) (m.gives unit other entry)
-  pub same : (unit : ℕ) (table other : List Interval) → unit < m.units → IsTable m table → IsTable m other → AgreeFor m unit table other → (entry : ℕ) → entry < length m.widest → m.gives unit table entry ≡ m.gives unit other entry
+  pub ordered : (unit : ℕ) (table : List Interval) → unit < m.units → IsTable m table → (entry : ℕ)
+      → entry < length m.widest → IsOrdered (m.gives unit table entry)
+  pub on_grid : (unit : ℕ) (table : List Interval) → unit < m.units → IsTable m table → (entry : ℕ)
+      → entry < length m.widest → IsOnGrid m.grid (m.gives unit table entry)
+  pub within : (unit : ℕ) (table : List Interval) → unit < m.units → IsTable m table → (entry : ℕ)
+      → entry < length m.widest → IsWithin (m.gives unit table entry) (at m.widest entry)
+  pub larger : (unit : ℕ) (table other : List Interval) → unit < m.units → IsTable m table → IsTable m other
+      → AreWithin table other → (entry : ℕ) → entry < length m.widest
+      → IsWithin (m.gives unit table entry) (m.gives unit other entry)
+  pub same : (unit : ℕ) (table other : List Interval) → unit < m.units → IsTable m table → IsTable m other
+      → AgreeFor m unit table other → (entry : ℕ) → entry < length m.widest
+      → m.gives unit table entry ≡ m.gives unit other entry
 
 -- the unit gives nothing before the one entry, nor from the other on
 abbrev pub GivesBetween : Meaning → ℕ → (from to : ℕ) → Type 0
-GivesBetween m unit from to = (table : List Interval) → IsTable m table → (entry : ℕ) → entry < length m.widest → (entry < from) ⊎ (to ≤ entry) → m.gives unit table entry ≡ Empty
+GivesBetween m unit from to =
+    (table : List Interval) → IsTable m table → (entry : ℕ) → entry < length m.widest → (entry < from) ⊎
+    (to ≤ entry) → m.gives unit table entry ≡ Empty
 
 -- as many entries as before, each joined with what is given for it
 pub record IsJoined (given : ℕ → Interval) (old new : List Interval) : Type 0 where
   pub entries : length new ≡ length old
   pub each : (entry : ℕ) → entry < length old → at new entry ≡ hull (at old entry) (given entry)
 
+-- from one table to another by evaluating units in turn: what each gives under the table as it then is, is
+-- joined into it
+abbrev pub IsRun : Meaning → (units : List ℕ) → (start end : List Interval) → Type 0
+IsRun m [] start end = end ≡ start
+IsRun m (unit ∷ units) start end =
+    (unit < m.units) × ((next : List Interval) × IsJoined (m.gives unit start) start next × IsRun m units next end)
+
+-- the table comes from the empty one by a run of as many evaluations as steps were counted
+abbrev pub IsFoundBy : Meaning → (before after : ℕ) → List Interval → Type 0
+IsFoundBy m before after table =
+    (units : List ℕ) × IsRun m units (replicate (length m.widest) Empty) table × (after ≡ before + length units)
+
 -- each entry holds what every unit gives for it under this very table
 pub record IsClosed (m : Meaning) (table : List Interval) : Type 0 where
   pub is_table : IsTable m table
-  pub holds : (unit : ℕ) → unit < m.units → (entry : ℕ) → entry < length m.widest → IsWithin (m.gives unit table entry) (at table entry)
+  pub holds : (unit : ℕ) → unit < m.units → (entry : ℕ) → entry < length m.widest
+      → IsWithin (m.gives unit table entry) (at table entry)
 
 -- closed, and within each closed table
 pub record IsLeast (m : Meaning) (table : List Interval) : Type 0 where
@@ -90,6 +115,9 @@ weight grid table = sum_by (numbers_in grid) table
 abbrev pub readers_of : Meaning → ℕ → List ℕ
 readers_of m entry = filter (λ unit. m.reads unit entry) (range_with_len 0 m.units)
 
--- how often units may read a raised entry: for each entry, the grid numbers that it holds times the units that read it, in all
+-- how often units may read a raised entry: for each entry, the grid numbers that it holds times the units
+-- that read it, in all
 abbrev pub readings : Meaning → List Interval → ℕ
-readings m table = sum_by (λ entry. numbers_in m.grid (at table entry) * length (readers_of m entry)) (range_with_len 0 (length m.widest))
+readings m table =
+    sum_by (λ entry. numbers_in m.grid (at table entry) * length (readers_of m entry))
+    (range_with_len 0 (length m.widest))

@@ -8,8 +8,8 @@ use std::alloc::{AllocError, Global};
 use std::collections::VecDeque;
 use std::marker::Model;
 
-/// Units that wait, first in first out, each once; a mark for each unit tells whether it waits. To contracts it is the number of
-/// units and the list of those that wait.
+/// Units that wait, first in first out, each once; a mark for each unit tells whether it waits. To
+/// contracts it is the number of units and the list of those that wait.
 #[derive(Drop)]
 pub(crate) struct Pending {
     marks: Vec<bool>,

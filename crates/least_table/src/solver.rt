@@ -3,7 +3,7 @@
 ghost use Rattle.std.specs.Prelude.{◌≡◌, ℕ, ◌+◌, ◌*◌, ◌<◌, ◌≤◌, IfOk, OnOk, [], ◌∷◌, length, get_or, slice_set};
 ghost use Rattle.std.specs.List.{Contains};
 ghost use Rattle.interval_domain.specs.Interval.{IsWithin};
-ghost use Rattle.least_table.specs.System.{Intervals, at, AreOnGrid, IsJoined, IsClosed, IsLeast, weight, readings};
+ghost use Rattle.least_table.specs.System.{Intervals, at, AreOnGrid, IsJoined, IsFoundBy, IsClosed, IsLeast, weight, readings};
 ghost use Rattle.least_table.specs.steps.Worklist as worklist;
 
 use crate::pending::Pending;
@@ -15,9 +15,10 @@ use station_ports::steps::Steps;
 use std::alloc::{AllocError, Global};
 use std::sync::ledger::Ledger;
 
-/// The least table in which each entry holds what every unit gives for it. Evaluates each unit once, and then only units that read an
-/// entry which has risen since. Takes two tables, and one number for each unit and for each entry that a unit reads. An error is want of
-/// memory.
+/// The least table in which each entry holds what every unit gives for it. Evaluates each unit
+/// once, and then only units that read an entry which has risen since, each evaluation in one step.
+/// Takes two tables, and one number for each unit and for each entry that a unit reads. An error is
+/// want of memory.
 pub fn least<S: System, L: Ledger>(
     alloc: Global,
     sys: &S,
@@ -26,6 +27,7 @@ pub fn least<S: System, L: Ledger>(
     ensures least { IfOk result (λ table. IsLeast (S.meaning sys.now) table) }
     ensures on_grid { IfOk result (λ table. AreOnGrid (S.meaning sys.now).grid table) }
     ensures parsed { steps.new.parsed ≡ steps.old.parsed }
+    ensures run { IfOk result (λ table. IsFoundBy (S.meaning sys.now) steps.old.solved steps.new.solved table) }
     ensures each { OnOk result (steps.old.solved + (S.meaning sys.now).units ≤ steps.new.solved) }
     ensures read { (table : Intervals) → IsClosed (S.meaning sys.now) table →
         steps.new.solved ≤ steps.old.solved + ((S.meaning sys.now).units + readings (S.meaning sys.now) table) }
@@ -53,8 +55,8 @@ pub fn least<S: System, L: Ledger>(
     Ok(table)
 }
 
-/// Raises the table by what the unit gives under it, and lets the units wait that read what rose. Before and after it both tables are
-/// the same.
+/// Raises the table by what the unit gives under it, and lets the units wait that read what rose.
+/// Before and after it both tables are the same.
 fn evaluate<S: System, L: Ledger>(
     alloc: Global,
     sys: &S,
@@ -75,6 +77,7 @@ fn evaluate<S: System, L: Ledger>(
     ensures units { pending.new.units ≡ pending.old.units }
     ensures steps { steps.new ≡ record steps.old { solved = steps.old.solved + 1 } }
     ensures next { OnOk result (next.new ≡ table.new) }
+    ensures joined { OnOk result (IsJoined ((S.meaning sys.now).gives unit table.old) table.old table.new) }
     ensures evaluated { OnOk result (worklist.IsEvaluated (S.meaning sys.now) table.old table.new pending.old.queue pending.new.queue) }
 {
     sys.raise(alloc, unit, table, next, scratch, steps)?;

@@ -9,13 +9,15 @@ use station_ports::steps::Steps;
 use std::alloc::Global;
 use std::sync::ledger::Ledger;
 
-/// Units that give intervals for the entries of a table, each under the entries that it reads. What a system means is on a grid, each
-/// entry has a widest interval, and under a larger table no unit gives less. The law is of every value of the type: what it needs to know
-/// of one, as that its grid rises, stands in a ghost field.
+/// Units that give intervals for the entries of a table, each under the entries that it reads. What
+/// a system means is on a grid, each entry has a widest interval, and under a larger table no unit
+/// gives less. The law is of every value of the type: what it needs to know of one, as that its
+/// grid rises, stands in a ghost field.
 pub trait System {
     ghost meaning: { Self → Meaning };
 
-    /// Room that `raise` works in, so that it needs none of its own. What it holds between two calls has no meaning.
+    /// Room that `raise` works in, so that it needs none of its own. What it holds between two
+    /// calls has no meaning.
     type Scratch: Drop;
 
     fn scratch(&self, alloc: Global) -> Result<Self::Scratch, NoMemory>;
@@ -34,8 +36,8 @@ pub trait System {
         requires entry { entry < length (meaning self.now).widest }
         ensures { result ≡ (meaning self.now).reads unit entry };
 
-    /// From which entry on to before which one a unit may give something. All entries, where a system doesn't say less: no others are
-    /// looked through once the unit was evaluated.
+    /// From which entry on to before which one a unit may give something. All entries, where a
+    /// system doesn't say less: no others are looked through once the unit was evaluated.
     fn given(&self, _unit: usize) -> (usize, usize)
         requires { _unit < (meaning self.now).units }
         ensures order { result.0 ≤ result.1 }
@@ -45,8 +47,8 @@ pub trait System {
         (0, self.entries())
     }
 
-    /// Joins into each entry of `into` what the unit gives for it under `table`. Counts one step of solving, also where there is no
-    /// memory for it; what `into` holds then is not said.
+    /// Joins into each entry of `into` what the unit gives for it under `table`. Counts one step of
+    /// solving, also where there is no memory for it; what `into` holds then is not said.
     fn raise<L: Ledger>(
         &self,
         alloc: Global,

@@ -13,7 +13,8 @@ nat_eq_other k n ne = grind (arith, nat_tests)
 nat_eq_same : (n : ℕ) → nat_eq n n ≡ true
 nat_eq_same n = grind (arith, nat_tests)
 
-pub joined_one : (given : ℕ → Interval) (old new : Intervals) (to : ℕ) (i : Interval) → to < length old → ((entry : ℕ) → given entry ≡ (if nat_eq entry to then i else Empty))
+pub joined_one : (given : ℕ → Interval) (old new : Intervals) (to : ℕ) (i : Interval) → to < length old
+    → ((entry : ℕ) → given entry ≡ (if nat_eq entry to then i else Empty))
     → new ≡ slice_set old to (hull (at old to) i) → IsJoined given old new
 joined_one given old new to i h g e = rw e (record {
   entries = length-set old to (hull (at old to) i);
@@ -21,10 +22,12 @@ joined_one given old new to i h g e = rw e (record {
       (λ (s : entry ≡ to).
       subst (λ (n : ℕ). at (slice_set old to (hull (at old to) i)) n ≡ hull (at old n) (given n)) (sym s)
       (get_or-set_same old to (hull (at old to) i) Empty h
-      ∙ ap (λ (j : Interval). hull (at old to) j) (sym (g to ∙ ap (λ (b : Bool). if b then i else Empty) (nat_eq_same to)))))
+      ∙ ap (λ (j : Interval). hull (at old to) j)
+      (sym (g to ∙ ap (λ (b : Bool). if b then i else Empty) (nat_eq_same to)))))
       (λ (ne : entry ≢ to).
       get_or-set_other old to entry (hull (at old to) i) Empty ne
       ∙ sym (hull_empty (at old entry))
-      ∙ ap (λ (j : Interval). hull (at old entry) j) (sym (g entry ∙ ap (λ (b : Bool). if b then i else Empty) (nat_eq_other entry to ne))))
+      ∙ ap (λ (j : Interval). hull (at old entry) j)
+      (sym (g entry ∙ ap (λ (b : Bool). if b then i else Empty) (nat_eq_other entry to ne))))
       (grind arith);
 })

@@ -1,5 +1,5 @@
--- The meaning of nets as a system, the example of the tests. Source: difference bounds, of which each says that a node holds what other ones hold,
--- moved by a number; here numbers are those from 0 to 7.
+-- The meaning of nets as a system, the example of the tests. Source: difference bounds, of which each says
+-- that a node holds what other ones hold, moved by a number; here numbers are those from 0 to 7.
 use Rattle.std.specs.Prelude.{ℕ, nat_eq, ◌||◌, Bool, true, false, if◌then◌else◌, List, [], ◌∷◌, length, get_or, replicate, ℤ, pos}
 use Rattle.interval_domain.specs.Interval.{Interval, Empty, Span, hull, meet}
 use Rattle.interval_domain.specs.Operators.{add_raw}
@@ -9,7 +9,8 @@ use Rattle.least_table.specs.System.{Meaning, Intervals, at}
 abbrev pub Sources : Type 0
 Sources = ℕ × ℕ × ℕ × ℕ
 
--- the nodes that it comes from, whether it starts with 0 besides, the node that it leads to, and by how much it moves
+-- the nodes that it comes from, whether it starts with 0 besides, the node that it leads to, and by how
+-- much it moves
 abbrev pub Arc : Type 0
 Arc = Sources × Bool × ℕ × ℤ
 

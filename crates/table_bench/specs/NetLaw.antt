@@ -58,7 +58,8 @@ cut_within a b c d h k =
 
 meet_on_grid : (i : Interval) → IsOnGrid numbers (meet i all_numbers)
 meet_on_grid Empty = tt
-meet_on_grid (Span a b) = cut_on_grid (int_max a (pos 0)) (int_min b (pos 7)) (omega (arith, ints, clamps)) (omega (arith, ints, clamps))
+meet_on_grid (Span a b) =
+    cut_on_grid (int_max a (pos 0)) (int_min b (pos 7)) (omega (arith, ints, clamps)) (omega (arith, ints, clamps))
 
 meet_ordered : (i : Interval) → IsOrdered (meet i all_numbers)
 meet_ordered Empty = tt
@@ -66,7 +67,9 @@ meet_ordered (Span a b) = cut_ordered (int_max a (pos 0)) (int_min b (pos 7))
 
 meet_in : (i : Interval) → IsWithin (meet i all_numbers) all_numbers
 meet_in Empty = tt
-meet_in (Span a b) = cut_within (int_max a (pos 0)) (int_min b (pos 7)) (pos 0) (pos 7) (omega (arith, ints, clamps)) (omega (arith, ints, clamps))
+meet_in (Span a b) =
+    cut_within (int_max a (pos 0)) (int_min b (pos 7)) (pos 0) (pos 7) (omega (arith, ints, clamps))
+    (omega (arith, ints, clamps))
 
 moved_more : (i j : Interval) (by : ℤ) → IsWithin i j → IsWithin (moved i by) (moved j by)
 moved_more i j by w =
@@ -75,12 +78,15 @@ moved_more i j by w =
 
 hull_more : (i j k l : Interval) → IsWithin i k → IsWithin j l → IsWithin (hull i j) (hull k l)
 hull_more i j k l p q =
-    hull_least i j (hull k l) (within_trans i k (hull k l) p (within_hull_left k l)) (within_trans j l (hull k l) q (within_hull_right k l))
+    hull_least i j (hull k l) (within_trans i k (hull k l) p (within_hull_left k l))
+    (within_trans j l (hull k l) q (within_hull_right k l))
 
-source_more : (arc : Arc) (table other : Intervals) → AreWithin table other → IsWithin (hull (start arc.1) (read arc.0 table)) (hull (start arc.1) (read arc.0 other))
+source_more : (arc : Arc) (table other : Intervals) → AreWithin table other
+    → IsWithin (hull (start arc.1) (read arc.0 table)) (hull (start arc.1) (read arc.0 other))
 source_more arc table other w =
     hull_more (start arc.1) (read arc.0 table) (start arc.1) (read arc.0 other) (within_refl (start arc.1))
-    (hull_more (hull (at table arc.0.0) (at table arc.0.1)) (hull (at table arc.0.2) (at table arc.0.3)) (hull (at other arc.0.0) (at other arc.0.1)) (hull (at other arc.0.2) (at other arc.0.3))
+    (hull_more (hull (at table arc.0.0) (at table arc.0.1)) (hull (at table arc.0.2) (at table arc.0.3))
+    (hull (at other arc.0.0) (at other arc.0.1)) (hull (at other arc.0.2) (at other arc.0.3))
     (hull_more (at table arc.0.0) (at table arc.0.1) (at other arc.0.0) (at other arc.0.1) (w arc.0.0) (w arc.0.1))
     (hull_more (at table arc.0.2) (at table arc.0.3) (at other arc.0.2) (at other arc.0.3) (w arc.0.2) (w arc.0.3)))
 
@@ -91,7 +97,11 @@ at_all_numbers (suc nodes) (suc node) h = at_all_numbers nodes node (omega arith
 
 widest_on_grid : (nodes node : ℕ) → IsOnGrid numbers (at (replicate nodes all_numbers) node)
 widest_on_grid zero node = tt
-widest_on_grid (suc nodes) zero = (in_numbers (pos 0) (omega (arith, ints)) (omega (arith, ints)), in_numbers (pos 7) (omega (arith, ints)) (omega (arith, ints)))
+widest_on_grid (suc nodes) zero = (
+  in_numbers (pos 0) (omega (arith, ints)) (omega (arith, ints)),
+  in_numbers (pos 7) (omega (arith, ints))
+      (omega (arith, ints)),
+)
 widest_on_grid (suc nodes) (suc node) = widest_on_grid nodes node
 
 widest_ordered : (nodes node : ℕ) → IsOrdered (at (replicate nodes all_numbers) node)
@@ -111,7 +121,8 @@ gives_more false i j w = tt
 inside : (k n : ℕ) → (k < n) ⊎ (n ≤ k)
 inside k n = grind arith
 
-same_at : (node : ℕ) (table other : Intervals) → length table ≡ length other → (node < length other → at table node ≡ at other node) → at table node ≡ at other node
+same_at : (node : ℕ) (table other : Intervals) → length table ≡ length other
+    → (node < length other → at table node ≡ at other node) → at table node ≡ at other node
 same_at node table other l h =
     ⊎_elim h
     (λ (b : length other ≤ node). get_or_past table node Empty (omega arith) ∙ sym (get_or_past other node Empty b))
@@ -132,7 +143,8 @@ is_third from = let e = eq_same from.2 in grind (arith, nat_tests)
 is_fourth : (from : Sources) → is_source from from.3 ≡ true
 is_fourth from = let e = eq_same from.3 in grind (arith, nat_tests)
 
-read_same : (from : Sources) (table other : Intervals) → length table ≡ length other → ((node : ℕ) → node < length other → is_source from node ≡ true → at table node ≡ at other node)
+read_same : (from : Sources) (table other : Intervals) → length table ≡ length other
+    → ((node : ℕ) → node < length other → is_source from node ≡ true → at table node ≡ at other node)
     → read from table ≡ read from other
 read_same from table other l h =
     let a : at table from.0 ≡ at other from.0 = same_at from.0 table other l (λ b. h from.0 b (is_first from)) in
@@ -148,23 +160,30 @@ net_is_monotone nodes arcs = record {
   widest_on_grid = widest_on_grid nodes;
   ordered = λ unit table u t node n.
       let arc : Arc = get_or arcs unit no_arc in
-      gives_by (λ (i : Interval). IsOrdered i) (nat_eq node arc.2) (moved (hull (start arc.1) (read arc.0 table)) arc.3)
+      gives_by (λ (i : Interval). IsOrdered i) (nat_eq node arc.2)
+      (moved (hull (start arc.1) (read arc.0 table)) arc.3)
       (meet_ordered (add_raw (hull (start arc.1) (read arc.0 table)) (Span arc.3 arc.3))) tt;
   on_grid = λ unit table u t node n.
       let arc : Arc = get_or arcs unit no_arc in
-      gives_by (λ (i : Interval). IsOnGrid numbers i) (nat_eq node arc.2) (moved (hull (start arc.1) (read arc.0 table)) arc.3)
+      gives_by (λ (i : Interval). IsOnGrid numbers i) (nat_eq node arc.2)
+      (moved (hull (start arc.1) (read arc.0 table)) arc.3)
       (meet_on_grid (add_raw (hull (start arc.1) (read arc.0 table)) (Span arc.3 arc.3))) tt;
   within = λ unit table u t node n.
       let arc : Arc = get_or arcs unit no_arc in
-      subst (λ (i : Interval). IsWithin (arc_gives arc table node) i) (sym (at_all_numbers nodes node (subst (λ (k : ℕ). node < k) (length-replicate nodes all_numbers) n)))
-      (gives_by (λ (i : Interval). IsWithin i all_numbers) (nat_eq node arc.2) (moved (hull (start arc.1) (read arc.0 table)) arc.3)
+      subst (λ (i : Interval). IsWithin (arc_gives arc table node) i)
+      (sym (at_all_numbers nodes node (subst (λ (k : ℕ). node < k) (length-replicate nodes all_numbers) n)))
+      (gives_by (λ (i : Interval). IsWithin i all_numbers) (nat_eq node arc.2)
+      (moved (hull (start arc.1) (read arc.0 table)) arc.3)
       (meet_in (add_raw (hull (start arc.1) (read arc.0 table)) (Span arc.3 arc.3))) tt);
   larger = λ unit table other u t o w node n.
       let arc : Arc = get_or arcs unit no_arc in
-      gives_more (nat_eq node arc.2) (moved (hull (start arc.1) (read arc.0 table)) arc.3) (moved (hull (start arc.1) (read arc.0 other)) arc.3)
-      (moved_more (hull (start arc.1) (read arc.0 table)) (hull (start arc.1) (read arc.0 other)) arc.3 (source_more arc table other w));
+      gives_more (nat_eq node arc.2) (moved (hull (start arc.1) (read arc.0 table)) arc.3)
+      (moved (hull (start arc.1) (read arc.0 other)) arc.3)
+      (moved_more (hull (start arc.1) (read arc.0 table)) (hull (start arc.1) (read arc.0 other)) arc.3
+      (source_more arc table other w));
   same = λ unit table other u t o h node n.
       let arc : Arc = get_or arcs unit no_arc in
       ap (λ (i : Interval). if nat_eq node arc.2 then moved (hull (start arc.1) i) arc.3 else Empty)
-      (read_same arc.0 table other (t.entries ∙ sym o.entries) (λ k l r. h k (subst (λ (x : ℕ). k < x) o.entries l) r));
+      (read_same arc.0 table other (t.entries ∙ sym o.entries)
+      (λ k l r. h k (subst (λ (x : ℕ). k < x) o.entries l) r));
 }

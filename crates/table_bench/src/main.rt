@@ -1,5 +1,5 @@
-// Compares the solver with plain rounds over random nets, and times both: with the words `compare` and `time`. Its tests are nets
-// whose least tables were worked out by hand.
+// Compares the solver with plain rounds over random nets, and times both: with the words `compare`
+// and `time`. Its tests are nets whose least tables were worked out by hand.
 #![tactic(auto)]
 
 ghost use Rattle.std.specs.Prelude.{◌≡◌};

@@ -16,7 +16,8 @@ use std::sync::ledger::Ledger;
 /// Four nodes that are read; one past the last node is none.
 pub type Sources = (usize, usize, usize, usize);
 
-/// The nodes that it comes from, whether it starts with 0 besides, the node that it leads to, and by how much it moves.
+/// The nodes that it comes from, whether it starts with 0 besides, the node that it leads to, and
+/// by how much it moves.
 pub type Arc = (Sources, bool, usize, i128);
 
 /// Nodes that hold numbers from 0 to 7, and arcs between them. An arc is a unit, and a node is an entry.

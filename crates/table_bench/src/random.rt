@@ -32,7 +32,8 @@ impl Random {
         )
     }
 
-    /// An arc between nodes, some of which are none, that moves by -3 to 3 and starts with 0 once in four times.
+    /// An arc between nodes, some of which are none, that moves by -3 to 3 and starts with 0 once
+    /// in four times.
     fn arc(&mut self, nodes: usize) -> Arc {
         let some = nodes.saturating_add(nodes / 2).saturating_add(1);
         let from = self.sources(some);

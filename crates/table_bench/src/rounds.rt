@@ -1,4 +1,5 @@
-// The least table of a net by plain rounds over all arcs, apart from the solver and from the trait: what the solver is compared with.
+// The least table of a net by plain rounds over all arcs, apart from the solver and from the trait:
+// what the solver is compared with.
 use crate::net::{Arc, Sources, moved, start};
 use interval_domain::interval::{Interval, join};
 use std::alloc::{AllocError, Global};
@@ -10,8 +11,8 @@ pub struct Solved {
     pub steps: u64,
 }
 
-/// Goes round over all arcs until nothing grows. A table that is no least one may be answered where that takes more rounds than nodes
-/// hold numbers.
+/// Goes round over all arcs until nothing grows. A table that is no least one may be answered where
+/// that takes more rounds than nodes hold numbers.
 pub fn by_rounds(alloc: Global, nodes: usize, arcs: &[Arc]) -> Result<Solved, AllocError> {
     let mut solved = Solved {
         nodes: vec![in alloc; Interval::empty(); nodes]?,

@@ -31,8 +31,9 @@ macro_rules! from {
     };
 }
 
-/// (1, 0) is the empty interval. Each unit takes a step, and one more for each time that a node which it reads rises; the most is the
-/// number of units and, for each of them, that of the numbers which the nodes hold that it reads.
+/// (1, 0) is the empty interval. Each unit takes a step, and one more for each time that a node
+/// which it reads rises; the most is the number of units and, for each of them, that of the numbers
+/// which the nodes hold that it reads.
 const ROWS: [Row; 14] = [
     // no node
     Row {

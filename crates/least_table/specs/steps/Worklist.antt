@@ -1,4 +1,5 @@
--- What the worklist keeps. Source: the code, which evaluates waiting units in turn, and lets those wait that read a raised entry.
+-- What the worklist keeps. Source: the code, which evaluates waiting units in turn, and lets those wait that
+-- read a raised entry.
 use Rattle.std.specs.Prelude.{◌≡◌, ℕ, ◌+◌, ◌<◌, ◌≤◌, ◌⊎◌, Bool, true, false, List, [], length, get_or, ◌≤ℤ◌}
 use Rattle.std.specs.List.{Contains}
 use Rattle.interval_domain.specs.Interval.{Interval, Empty, Span, IsWithin}
@@ -35,7 +36,8 @@ pub record AreReaders (m : Meaning) (readers : List (List ℕ)) : Type 0 where
 
 -- the entry stays and no more units wait, or it rises and its readers wait
 abbrev pub IsSettled : (old new : Interval) → (readers before after : List ℕ) → Type 0
-IsSettled old new readers before after = ((old ≡ new) × (after ≡ before)) ⊎ (Exceeds old new × IsQueued readers before after)
+IsSettled old new readers before after =
+    ((old ≡ new) × (after ≡ before)) ⊎ (Exceeds old new × IsQueued readers before after)
 
 -- ---- tables on the way
 
@@ -47,7 +49,8 @@ pub record IsBelow (m : Meaning) (table : List Interval) : Type 0 where
 
 -- what the unit gives under a table is in another one
 abbrev pub IsGiven : Meaning → ℕ → (table bound : List Interval) → Type 0
-IsGiven m unit table bound = (entry : ℕ) → entry < length m.widest → IsWithin (m.gives unit table entry) (at bound entry)
+IsGiven m unit table bound =
+    (entry : ℕ) → entry < length m.widest → IsWithin (m.gives unit table entry) (at bound entry)
 
 -- each unit waits, or what it gives under a table is in another one
 abbrev pub AreSettled : Meaning → (waiting : List ℕ) → (table bound : List Interval) → Type 0

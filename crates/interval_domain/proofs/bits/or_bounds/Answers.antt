@@ -1,35 +1,9 @@
-use Rattle.std.proofs.Common.{rules, ◌≡◌, FitsSigned, ap, sym, ◌∙◌}
-use Rattle.std.proofs.lemmas.Int.{to_z-of_z}
-use mir.Syntax.{w128}
-use Rattle.interval_domain.specs.Interval.{Span, span}
-use Rattle.std.specs.Int.{int_max}
-use Rattle.interval_domain.specs.Bits.{exact_or, or_of, ones_above}
-use Rattle.interval_domain.proofs.Patterns.{or-at}
+use Rattle.std.proofs.Common.{rules}
+use Rattle.interval_domain.specs.Bits.{pattern_at, or_of, or_other}
+use Rattle.interval_domain.proofs.Words.{strict-at}
 use Rattle.interval_domain.proofs.bits.or_bounds.Goals as goal
 
-pub returns-in-Some-Some-clause-value : goal.returns-in-Some-Some-clause-value
-returns-in-Some-Some-clause-value c =
-    let left : c.args.a ≡ Span c.in-Some-Some.a c.in-Some-Some.b = c.in-Some-Some.ensures.value in
-    let right : c.args.b ≡ Span c.in-Some-Some.c c.in-Some-Some.d = c.in-Some-Some.ensures'.value in
-    let f0 : FitsSigned w128 c.in-Some-Some.a = search rules in
-    let e0 = to_z-of_z w128 c.in-Some-Some.a f0 in
-    let f1 : FitsSigned w128 c.in-Some-Some.b = search rules in
-    let e1 = to_z-of_z w128 c.in-Some-Some.b f1 in
-    let f2 : FitsSigned w128 c.in-Some-Some.c = search rules in
-    let e2 = to_z-of_z w128 c.in-Some-Some.c f2 in
-    let f3 : FitsSigned w128 c.in-Some-Some.d = search rules in
-    let e3 = to_z-of_z w128 c.in-Some-Some.d f3 in
-    let f4 : FitsSigned w128 c.or_of.result = search rules in
-    let e4 = to_z-of_z w128 c.or_of.result f4 in
-    let f5 : FitsSigned w128 c.max.result = search rules in
-    let e5 = to_z-of_z w128 c.max.result f5 in
-    let f6 : FitsSigned w128 c.max-in-Some-Some.result = search rules in
-    let e6 = to_z-of_z w128 c.max-in-Some-Some.result f6 in
-    let f7 : FitsSigned w128 c.ones_above.result = search rules in
-    let e7 = to_z-of_z w128 c.ones_above.result f7 in
-    let exact = c.or_of.ensures ∙ (λ n. or_of (e0 n) (e2 n)) in
-    let low = c.max.ensures.value ∙ (λ n. int_max (e0 n) (e2 n)) in
-    let high = c.max-in-Some-Some.ensures.value ∙ (λ n. int_max (e1 n) (e3 n)) in
-    let ones = c.ones_above.ensures.value ∙ ap ones_above (e6 ∙ high) in
-    let other = c.of.ensures ∙ (λ n. span ((e5 ∙ low) n) ((e7 ∙ ones) n)) in
-    c.exact_or.ensures ∙ (λ n. exact_or (e0 n) (e1 n) (e2 n) (e3 n) ((e4 ∙ exact) n) (other n)) ∙ sym (or-at _ _ _ _ _ _ left right)
+pub returns-in-Some-Some : goal.returns-in-Some-Some
+returns-in-Some-Some c =
+    strict-at (pattern_at or_of or_other) _ _ _ _ _ _ _ c.in-Some-Some.ensures.value c.in-Some-Some.ensures'.value
+    (search rules) (search rules) (search rules) (search rules) c.or_at.ensures

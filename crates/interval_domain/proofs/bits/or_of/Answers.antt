@@ -17,5 +17,6 @@ returns c =
     let x = to_z-of_z w128 c.args.x c.ranges.x in
     let y = to_z-of_z w128 c.args.y c.ranges.y in
     let fits = or-fits c.args.x c.args.y (c.requires.left, c.ranges.x) (c.requires.right, c.ranges.y) in
-    subst (λ (m : ℕ). to_z w128 m ≡ or_of c.args.x c.args.y) (λ n. bit_or (unsigned_abs (sym x n)) (unsigned_abs (sym y n)))
+    subst (λ (m : ℕ). to_z w128 m ≡ or_of c.args.x c.args.y)
+    (λ n. bit_or (unsigned_abs (sym x n)) (unsigned_abs (sym y n)))
     (to_z_pos w128 (bit_or (unsigned_abs c.args.x) (unsigned_abs c.args.y)) fits.sfits)

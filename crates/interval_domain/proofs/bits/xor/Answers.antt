@@ -1,22 +1,35 @@
 use Rattle.std.proofs.Common.{◌∙◌, ap}
 use Rattle.iec_tables.specs.Types.{width_of}
 use Rattle.interval_domain.specs.Interval.{Interval}
-use Rattle.interval_domain.specs.Bits.{patterns_in, xor_of, xor_row, cut_row}
-use Rattle.interval_domain.proofs.Patterns.{cut-held-xor, cut-larger-xor, cut-least-xor}
-use Rattle.interval_domain.proofs.Shapes.{sound-plain-two, best-plain-two, grows-plain-two}
+use Rattle.interval_domain.specs.Bits.{patterns_in, xor_of, xor_other, xor_row}
+use Rattle.interval_domain.proofs.Cuts.{bits-sound, bits-best, bits-monotone}
+use Rattle.interval_domain.proofs.Patterns.{xor-operator}
+use Rattle.interval_domain.proofs.Truths.{xor-table}
 use Rattle.interval_domain.proofs.bits.xor.Goals as goal
 
 pub returns-clause-raw : goal.returns-clause-raw
-returns-clause-raw c = c.plain.ensures.raw ∙ c.xor_bounds.ensures.value ∙ ap (λ (i : Interval). xor_row i c.patterns_in-2.result) c.patterns_in.ensures.value ∙ ap (λ (j : Interval). xor_row (patterns_in (width_of c.args.t) c.args.a) j) c.patterns_in-2.ensures.value
+returns-clause-raw c =
+    c.plain.ensures.raw ∙ c.xor_bounds.ensures
+    ∙ ap (λ (i : Interval). xor_row i c.patterns_in-2.result) c.patterns_in.ensures.value
+    ∙ ap (λ (j : Interval). xor_row (patterns_in (width_of c.args.t) c.args.a) j) c.patterns_in-2.ensures.value
 
 pub returns-clause-result : goal.returns-clause-result
-returns-clause-result c = c.plain.ensures.result ∙ c.xor_bounds.ensures.value ∙ ap (λ (i : Interval). xor_row i c.patterns_in-2.result) c.patterns_in.ensures.value ∙ ap (λ (j : Interval). xor_row (patterns_in (width_of c.args.t) c.args.a) j) c.patterns_in-2.ensures.value
+returns-clause-result c =
+    c.plain.ensures.result ∙ c.xor_bounds.ensures
+    ∙ ap (λ (i : Interval). xor_row i c.patterns_in-2.result) c.patterns_in.ensures.value
+    ∙ ap (λ (j : Interval). xor_row (patterns_in (width_of c.args.t) c.args.a) j) c.patterns_in-2.ensures.value
 
 pub returns-clause-sound : goal.returns-clause-sound
-returns-clause-sound c = sound-plain-two xor_of (patterns_in (width_of c.args.t) c.args.a) (patterns_in (width_of c.args.t) c.args.b) (cut_row xor_row c.args.t c.args.a c.args.b) _ _ (returns-clause-raw c) (returns-clause-result c) (cut-held-xor c.args.t c.args.a c.args.b)
+returns-clause-sound c =
+    bits-sound xor_of xor_other c.args.t c.args.a c.args.b _ _ (returns-clause-raw c)
+    (returns-clause-result c) xor-operator
 
 pub returns-clause-best : goal.returns-clause-best
-returns-clause-best c one = best-plain-two xor_of (patterns_in (width_of c.args.t) c.args.a) (patterns_in (width_of c.args.t) c.args.b) (cut_row xor_row c.args.t c.args.a c.args.b) _ (returns-clause-raw c) (cut-least-xor c.args.t c.args.a c.args.b one)
+returns-clause-best c =
+    bits-best xor_of xor_other c.args.t c.args.a c.args.b _ _ (returns-clause-raw c)
+    (returns-clause-result c) xor-table
 
 pub returns-clause-monotone : goal.returns-clause-monotone
-returns-clause-monotone c = grows-plain-two (cut_row xor_row c.args.t) c.args.a c.args.b _ _ (returns-clause-raw c) (returns-clause-result c) (cut-larger-xor c.args.t c.args.a c.args.b)
+returns-clause-monotone c =
+    bits-monotone xor_of xor_other c.args.t c.args.a c.args.b _ _ (returns-clause-raw c)
+    (returns-clause-result c) xor-operator

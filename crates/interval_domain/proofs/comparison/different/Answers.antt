@@ -4,12 +4,13 @@ use mir.Syntax.{w128}
 use Rattle.interval_domain.specs.Interval.{span}
 use Rattle.std.specs.Ordering.{int_eq}
 use Rattle.interval_domain.specs.Comparison.{without}
-use Rattle.interval_domain.proofs.Tests.{eq-no}
+use Rattle.interval_domain.proofs.Orders.{eq-no}
 use Rattle.interval_domain.proofs.comparison.different.Goals as goal
 
 pub returns-else-c-d : goal.returns-else-c-d
 returns-else-c-d c =
-    let unequal : int_eq c.args.c c.args.d ≡ false = eq-no c.args.c c.args.d (λ e. c.if-c-d.false (ap (of_z w128) e)) in
+    let unequal : int_eq c.args.c c.args.d ≡ false = eq-no c.args.c c.args.d
+    (λ e. c.if-c-d.false (ap (of_z w128) e)) in
     let f0 : FitsSigned w128 c.args.a = search rules in
     let e0 = to_z-of_z w128 c.args.a f0 in
     let f1 : FitsSigned w128 c.args.b = search rules in

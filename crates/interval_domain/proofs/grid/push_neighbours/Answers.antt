@@ -14,7 +14,8 @@ returns c =
     let e2 = to_z-of_z w128 c.kept.result f2 in
     let f3 : FitsSigned w128 c.kept_sum.result = search rules in
     let e3 = to_z-of_z w128 c.kept_sum.result f3 in
-    pushed-three c.args.literal _ _ _ _ _ _ _ c.in_ok-push_rank.ensures c.in_ok-push_rank-2.ensures c.in_ok-push_rank-3.ensures
+    pushed-three c.args.literal _ _ _ _ _ _ _ c.in_ok-push_rank.ensures c.in_ok-push_rank-2.ensures
+    c.in_ok-push_rank-3.ensures
     (e1 ∙ c.kept_difference.ensures ∙ ap (λ z. kept (difference_of z (pos 1))) e0)
     (e2 ∙ c.kept.ensures ∙ ap kept e0)
     (e3 ∙ c.kept_sum.ensures ∙ ap (λ z. kept (sum_of z (pos 1))) e0)

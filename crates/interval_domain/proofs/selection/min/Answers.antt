@@ -1,7 +1,8 @@
 use Rattle.std.proofs.Common.{◌∙◌}
 use Rattle.interval_domain.specs.Selection.{least_of, min_row}
+use Rattle.interval_domain.specs.Laws.{of_two}
 use Rattle.interval_domain.proofs.Choices.{held-min, larger-min}
-use Rattle.interval_domain.proofs.Shapes.{sound-plain-two, grows-plain-two}
+use Rattle.interval_domain.proofs.Shapes.{sound-plain, whole-grows, grows-two}
 use Rattle.interval_domain.proofs.selection.min.Goals as goal
 
 pub returns-clause-raw : goal.returns-clause-raw
@@ -11,7 +12,11 @@ pub returns-clause-result : goal.returns-clause-result
 returns-clause-result c = c.plain.ensures.result ∙ c.min_bounds.ensures
 
 pub returns-clause-sound : goal.returns-clause-sound
-returns-clause-sound c = sound-plain-two least_of c.args.a c.args.b (min_row c.args.a c.args.b) _ _ (returns-clause-raw c) (returns-clause-result c) (held-min c.args.a c.args.b)
+returns-clause-sound c =
+    sound-plain (of_two least_of c.args.a c.args.b) (min_row c.args.a c.args.b) _ _
+    (returns-clause-raw c) (returns-clause-result c) (held-min c.args.a c.args.b)
 
 pub returns-clause-monotone : goal.returns-clause-monotone
-returns-clause-monotone c = grows-plain-two min_row c.args.a c.args.b _ _ (returns-clause-raw c) (returns-clause-result c) (larger-min c.args.a c.args.b)
+returns-clause-monotone c =
+    grows-two min_row (λ i. i) whole-grows c.args.a c.args.b _ _ (returns-clause-raw c) (returns-clause-result c)
+    (larger-min c.args.a c.args.b)

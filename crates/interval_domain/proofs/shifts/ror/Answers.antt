@@ -1,20 +1,33 @@
 use Rattle.std.proofs.Common.{◌∙◌, ap, ℕ, ◌<◌, subst}
 use Rattle.iec_tables.specs.Types.{width_of}
 use Rattle.interval_domain.specs.Interval.{Interval}
-use Rattle.interval_domain.specs.Bits.{patterns_in}
-use Rattle.interval_domain.specs.Shifts.{ror_of, ror_row, cut_row}
-use Rattle.interval_domain.proofs.Turning.{cut-held-ror, cut-larger-ror}
-use Rattle.interval_domain.proofs.Shapes.{sound-plain-two, grows-plain-two}
+use Rattle.interval_domain.specs.Shifts.{ror_of, ror_row}
+use Rattle.interval_domain.proofs.Cuts.{moved-sound, moved-monotone}
+use Rattle.interval_domain.proofs.Turning.{ror-operator}
 use Rattle.interval_domain.proofs.shifts.ror.Goals as goal
 
 pub returns-clause-raw : goal.returns-clause-raw
-returns-clause-raw c = c.plain.ensures.raw ∙ c.ror_bounds.ensures.value ∙ ap (λ (w : ℕ). ror_row w c.patterns_in.result c.args.n) c.width.ensures.value ∙ ap (λ (i : Interval). ror_row (width_of c.args.t) i c.args.n) c.patterns_in.ensures.value
+returns-clause-raw c =
+    c.plain.ensures.raw ∙ c.ror_bounds.ensures.value
+    ∙ ap (λ (w : ℕ). ror_row w c.patterns_in.result c.args.n) c.width.ensures.value
+    ∙ ap (λ (i : Interval). ror_row (width_of c.args.t) i c.args.n) c.patterns_in.ensures.value
 
 pub returns-clause-result : goal.returns-clause-result
-returns-clause-result c = c.plain.ensures.result ∙ c.ror_bounds.ensures.value ∙ ap (λ (w : ℕ). ror_row w c.patterns_in.result c.args.n) c.width.ensures.value ∙ ap (λ (i : Interval). ror_row (width_of c.args.t) i c.args.n) c.patterns_in.ensures.value
+returns-clause-result c =
+    c.plain.ensures.result ∙ c.ror_bounds.ensures.value
+    ∙ ap (λ (w : ℕ). ror_row w c.patterns_in.result c.args.n) c.width.ensures.value
+    ∙ ap (λ (i : Interval). ror_row (width_of c.args.t) i c.args.n) c.patterns_in.ensures.value
 
 pub returns-clause-sound : goal.returns-clause-sound
-returns-clause-sound c = sound-plain-two (ror_of (width_of c.args.t)) (patterns_in (width_of c.args.t) c.args.a) c.args.n (cut_row ror_row (width_of c.args.t) c.args.a c.args.n) _ _ (returns-clause-raw c) (returns-clause-result c) (cut-held-ror (width_of c.args.t) (subst (λ (w : ℕ). 0 < w) c.width.ensures.value c.width.ensures.some) c.args.a c.args.n)
+returns-clause-sound c =
+    moved-sound ror_of (width_of c.args.t) (ror-operator (width_of c.args.t)
+    (subst (λ (w : ℕ). 0 < w) c.width.ensures.value c.width.ensures.some)) c.args.a c.args.n _ _
+    (returns-clause-raw c) (returns-clause-result c)
 
 pub returns-clause-monotone : goal.returns-clause-monotone
-returns-clause-monotone c = grows-plain-two (cut_row ror_row (width_of c.args.t)) c.args.a c.args.n _ _ (returns-clause-raw c) (returns-clause-result c) (cut-larger-ror (width_of c.args.t) (subst (λ (w : ℕ). 0 < w) c.width.ensures.value c.width.ensures.some) c.args.a c.args.n c.ror_bounds.ensures.ordered.1)
+returns-clause-monotone c =
+    moved-monotone ror_of (width_of c.args.t)
+    (ror-operator (width_of c.args.t)
+    (subst (λ (w : ℕ). 0 < w) c.width.ensures.value c.width.ensures.some)) c.args.a c.args.n _ _
+    (returns-clause-raw c) (returns-clause-result c)
+    c.ror_bounds.ensures.ordered

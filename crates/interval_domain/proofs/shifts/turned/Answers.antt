@@ -3,7 +3,8 @@ use Rattle.interval_domain.proofs.Turning.{turned-at, word-above}
 use Rattle.interval_domain.proofs.shifts.turned.Goals as goal
 
 pub returns-clause-pattern : goal.returns-clause-pattern
-returns-clause-pattern c = turned-at _ _ _ _ _ c.requires.place c.requires.pattern c.power.ensures.value c.moved_up.ensures
+returns-clause-pattern c =
+    turned-at _ _ _ _ _ c.requires.place c.requires.pattern c.power.ensures.value c.moved_up.ensures
 
 pub returns-clause-word : goal.returns-clause-word
 returns-clause-word c =

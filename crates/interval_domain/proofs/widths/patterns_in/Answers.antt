@@ -7,10 +7,14 @@ use Rattle.interval_domain.proofs.widths.patterns_in.Goals as goal
 
 pub returns-clause-within : goal.returns-clause-within
 returns-clause-within c =
-    subst (λ (i : Interval). IsWithin i (bits_range c.args.t)) (sym (c.meet.ensures ∙ ap (meet c.args.i) (c.patterns.ensures ∙ ap (λ (w : ℕ). patterns w) c.width.ensures.value)))
+    subst (λ (i : Interval). IsWithin i (bits_range c.args.t))
+    (sym (c.meet.ensures ∙ ap (meet c.args.i)
+    (c.patterns.ensures ∙ ap (λ (w : ℕ). patterns w) c.width.ensures.value)))
     (meet-right c.args.i (bits_range c.args.t))
 
 pub returns-clause-words : goal.returns-clause-words
 returns-clause-words c =
-    subst (λ (i : Interval). IsWithin i words) (sym (c.meet.ensures ∙ ap (meet c.args.i) (c.patterns.ensures ∙ ap (λ (w : ℕ). patterns w) c.width.ensures.value)))
+    subst (λ (i : Interval). IsWithin i words)
+    (sym (c.meet.ensures ∙ ap (meet c.args.i)
+    (c.patterns.ensures ∙ ap (λ (w : ℕ). patterns w) c.width.ensures.value)))
     (bits-words c.args.t (meet c.args.i (bits_range c.args.t)) (meet-right c.args.i (bits_range c.args.t)))

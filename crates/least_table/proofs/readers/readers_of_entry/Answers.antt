@@ -13,5 +13,6 @@ loop-unit-preserved g c =
           ∙ ap (λ (units : List ℕ). units ++ c.loop-unit.unit ∷ []) c.loop-unit.invariant
           ∙ sym (filter_yes reads c.loop-unit.unit (sym c.reads.ensures ∙ w.if-reads.true)))
       | else-reads w ↦
-          rw w.units-is (c.loop-unit.invariant ∙ sym (filter_no reads c.loop-unit.unit (sym c.reads.ensures ∙ w.if-reads.false)))
+          rw w.units-is (c.loop-unit.invariant
+          ∙ sym (filter_no reads c.loop-unit.unit (sym c.reads.ensures ∙ w.if-reads.false)))
     ]

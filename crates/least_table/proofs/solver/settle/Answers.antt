@@ -6,5 +6,6 @@ use Rattle.least_table.proofs.solver.settle.Goals as goal
 pub put_all-requires : goal.put_all-requires
 put_all-requires c unit inside =
     let these : c.units.result.now ≡ get_or c.args.readers.now c.args.entry [] =
-    c.units.ensures ∙ c.index-readers-entry.is ∙ get_or_default c.args.readers.now c.args.entry c.index-readers-entry.result [] c.requires.readers in
+    c.units.ensures ∙ c.index-readers-entry.is
+    ∙ get_or_default c.args.readers.now c.args.entry c.index-readers-entry.result [] c.requires.readers in
     c.requires.units unit (subst (λ (units : List ℕ). Contains units unit) these inside)

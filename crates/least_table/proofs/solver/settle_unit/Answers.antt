@@ -11,7 +11,9 @@ loop-entry-init g c =
     record {
       units = refl;
       way = way_start m c.args.next.now c.args.table.now c.args.pending.now.queue c.requires.table
-          (joined_inside (m.gives c.args.unit c.args.table.now) c.args.table.now c.args.next.now c.requires.joined) c.requires.settled;
+          (joined_inside
+          (m.gives c.args.unit c.args.table.now) c.args.table.now c.args.next.now c.requires.joined)
+          c.requires.settled;
       taken = λ entry a b. absurd (omega arith);
     }
 
@@ -20,7 +22,8 @@ settle-requires-clause-units g c unit inside =
     let m = g.S.System.meaning c.args.sys.now in
     let place : c.loop-entry.entry < length m.widest = omega (arith, c.given-from.ensures.whole) in
     let low : unit < m.units =
-    readers_below m c.loop-entry.entry unit (subst (λ (units : List ℕ). Contains units unit) (c.requires.readers.each c.loop-entry.entry place) inside) in
+    readers_below m c.loop-entry.entry unit (subst (λ (units : List ℕ). Contains units unit)
+    (c.requires.readers.each c.loop-entry.entry place) inside) in
     omega (arith, c.loop-entry.invariant.units, c.requires.units)
 
 pub loop-entry-preserved : goal.loop-entry-preserved
@@ -28,24 +31,34 @@ loop-entry-preserved g c =
     let m = g.S.System.meaning c.args.sys.now in
     let entry = c.loop-entry.entry in
     let place : c.loop-entry.entry < length m.widest = omega (arith, c.given-from.ensures.whole) in
-    let short : c.loop-entry.entry < length c.loop-entry.table = omega (arith, c.loop-entry.invariant.way.below.is_table.entries) in
+    let short : c.loop-entry.entry < length c.loop-entry.table = omega (
+      arith,
+      c.loop-entry.invariant.way.below.is_table.entries,
+    ) in
     let settled : IsSettled (at c.loop-entry.table entry) (at c.args.next.now entry) (readers_of m entry) c.loop-entry.pending.queue c.settle.new.pending.queue =
-    subst (λ (units : List ℕ). IsSettled (at c.loop-entry.table entry) (at c.args.next.now entry) units c.loop-entry.pending.queue c.settle.new.pending.queue)
+    subst (λ (units : List ℕ). IsSettled (at c.loop-entry.table entry)
+    (at c.args.next.now entry) units c.loop-entry.pending.queue c.settle.new.pending.queue)
     (c.requires.readers.each entry place) c.in_ok-settle.ensures.settled in
     record {
       units = c.settle.ensures.units ∙ c.loop-entry.invariant.units;
-      way = subst (λ (t : Intervals). IsOnTheWay m c.args.next.now c.args.table.now t c.args.pending.now.queue c.settle.new.pending.queue)
+      way =
+          subst (λ (t : Intervals).
+          IsOnTheWay m c.args.next.now c.args.table.now t c.args.pending.now.queue c.settle.new.pending.queue)
           (sym c.in_ok-settle.ensures.value)
-          (way_more m c.args.next.now c.args.table.now c.loop-entry.table c.args.pending.now.queue c.loop-entry.pending.queue c.settle.new.pending.queue entry
+          (way_more m c.args.next.now c.args.table.now c.loop-entry.table c.args.pending.now.queue
+          c.loop-entry.pending.queue c.settle.new.pending.queue entry
           (g.met.S.System.law c.args.sys.now) c.requires.next short c.loop-entry.invariant.way settled);
       taken = λ k a b. subst (λ (t : Intervals). at t k ≡ at c.args.next.now k) (sym c.in_ok-settle.ensures.value)
-          (taken_more c.loop-entry.table c.args.next.now c.given-from.result.0 entry short c.loop-entry.invariant.taken k a b);
+          (taken_more c.loop-entry.table c.args.next.now c.given-from.result.0 entry short
+          c.loop-entry.invariant.taken k a b);
     }
 
 same : goal.returns-clause-next
 same g c =
-    way_end (g.S.System.meaning c.args.sys.now) c.args.unit c.given-from.result.0 c.given-from.result.1 c.args.next.now c.args.table.now c.loop-entry.table
-    c.args.pending.now.queue c.loop-entry.pending.queue c.requires.table c.requires.joined c.requires.unit c.given-from.ensures.outside c.loop-entry.invariant.way
+    way_end (g.S.System.meaning c.args.sys.now) c.args.unit c.given-from.result.0 c.given-from.result.1
+    c.args.next.now c.args.table.now c.loop-entry.table
+    c.args.pending.now.queue c.loop-entry.pending.queue c.requires.table c.requires.joined c.requires.unit
+    c.given-from.ensures.outside c.loop-entry.invariant.way
     (λ k a b. c.loop-entry.invariant.taken k a (omega arith))
 
 pub returns-clause-next : goal.returns-clause-next
@@ -53,5 +66,6 @@ returns-clause-next g c = same g c
 
 pub returns-clause-evaluated : goal.returns-clause-evaluated
 returns-clause-evaluated g c =
-    evaluated (g.S.System.meaning c.args.sys.now) c.args.next.now c.args.table.now c.loop-entry.table c.args.pending.now.queue c.loop-entry.pending.queue
+    evaluated (g.S.System.meaning c.args.sys.now) c.args.next.now c.args.table.now c.loop-entry.table
+    c.args.pending.now.queue c.loop-entry.pending.queue
     c.loop-entry.invariant.way (same g c)

@@ -19,7 +19,9 @@ returns-then-to-self-clause-joined g c =
     (c.join.ensures
     ∙ ap (λ (i : Interval). hull i c.read.result) c.start.ensures
     ∙ ap (λ (i : Interval). hull (start arc.1) i) c.read.ensures) in
-    joined_one ((net c.args.self.now.nodes c.args.self.now.arcs.now).gives c.args.unit c.args.table.now) c.args.into.now c.join_at.new.self arc.2
+    joined_one ((net c.args.self.now.nodes c.args.self.now.arcs.now).gives c.args.unit c.args.table.now)
+    c.args.into.now c.join_at.new.self arc.2
     (moved (hull (start arc.1) (read arc.0 c.args.table.now)) arc.3)
     (omega (arith, length-replicate c.args.self.now.nodes all_numbers)) (λ entry. refl)
-    (c.join_at.ensures ∙ ap (λ (i : Interval). slice_set c.args.into.now arc.2 (hull (at c.args.into.now arc.2) i)) given)
+    (c.join_at.ensures ∙ ap (λ (i : Interval). slice_set c.args.into.now arc.2
+    (hull (at c.args.into.now arc.2) i)) given)
