@@ -1,0 +1,6 @@
+pub mod Places
+pub mod Ways
+pub mod Storing
+pub mod Searching
+pub mod Orders
+pub mod Splitting
