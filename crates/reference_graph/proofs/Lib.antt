@@ -4,3 +4,4 @@ pub mod Storing
 pub mod Searching
 pub mod Orders
 pub mod Splitting
+pub mod Settling

@@ -1,5 +1,5 @@
 -- What stands at places of lists.
-use Rattle.std.proofs.Common.{◌≡◌, ◌≢◌, ℕ, zero, suc, ◌+◌, ◌<◌, ◌≤◌, Option, Some, None, List, [], ◌∷◌, ◌++◌, length, get_or, set, arith, refl, sym, subst, ap, ◌∙◌, inl, inr, ⊎_elim}
+use Rattle.std.proofs.Common.{◌≡◌, ◌≢◌, ℕ, zero, suc, ◌+◌, ◌<◌, ◌≤◌, Option, Some, None, List, [], ◌∷◌, ◌++◌, length, get_or, replicate, arith, refl, sym, subst, ap, ◌∙◌, inl, inr, ⊎_elim}
 use Rattle.std.specs.Prelude.{◌⊎◌, slice_get, slice_set}
 use Rattle.std.specs.List.{Contains}
 use Rattle.std.proofs.lemmas.Option.{slice_get_within, slice_get-get_or, get_or_from_slice_get}
@@ -52,3 +52,14 @@ set_else (z ∷ xs) zero zero y ne = absurd (ne refl)
 set_else (z ∷ xs) zero (suc k) y ne = refl
 set_else (z ∷ xs) (suc i) zero y ne = refl
 set_else (z ∷ xs) (suc i) (suc k) y ne = set_else xs i k y (λ e. ne (ap suc e))
+
+-- the same value at each place
+pub replicated : {X : Type 0} (n i : ℕ) (x y : X) → slice_get (replicate n x) i ≡ Some y → y ≡ x
+replicated zero i x y e = absurd (cc)
+replicated (suc n) zero x y e = sym (one_value (x ∷ []) 0 x y refl e)
+replicated (suc n) (suc i) x y e = replicated n i x y e
+
+pub replicate_here : {X : Type 0} (n i : ℕ) (x : X) → i < n → slice_get (replicate n x) i ≡ Some x
+replicate_here zero i x l = absurd (omega arith)
+replicate_here (suc n) zero x l = refl
+replicate_here (suc n) (suc i) x l = replicate_here n i x (omega arith)

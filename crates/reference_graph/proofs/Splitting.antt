@@ -1,10 +1,11 @@
 -- What is kept while a group is split.
-use Rattle.std.proofs.Common.{◌≡◌, ◌≢◌, ℕ, zero, suc, ◌+◌, ◌<◌, ◌≤◌, ◌==◌, Bool, true, false, cond, Option, Some, None, List, [], ◌∷◌, ◌++◌, length, get_or, take, arith, refl, sym, subst, ap, ◌∙◌, inl, inr, ⊎_elim}
+use Rattle.std.proofs.Common.{◌≡◌, ◌≢◌, ℕ, zero, suc, ◌+◌, ◌<◌, ◌≤◌, ◌==◌, Bool, true, false, cond, Option, Some, None, List, [], ◌∷◌, ◌++◌, length, get_or, take, arith, refl, sym, subst, ap, ◌∙◌, inl, inr, ⊎_elim, eq-eqb}
+use Rattle.std.proofs.lemmas.Bool.{ne_eqb}
 use Rattle.std.specs.Prelude.{◌⊎◌, slice_get, slice_set}
 use Rattle.std.specs.List.{Contains}
 use Rattle.std.proofs.lemmas.List.{length-set, length_push, take_more}
 use Rattle.std.proofs.lemmas.List.Elements.{Contains-append_left, Contains-append_right, Contains-push, Contains-push_cases}
-use Rattle.std.proofs.lemmas.Option.{slice_get_within, slice_get-get_or}
+use Rattle.std.proofs.lemmas.Option.{slice_get_within, slice_get-get_or, get_or_from_slice_get}
 use Rattle.std.proofs.lemmas.List.Sums.{sum_by-set}
 use Rattle.reference_graph.specs.Graph.{Rows, Edge, targets}
 use Rattle.reference_graph.specs.Reach.{Reaches}
@@ -56,9 +57,19 @@ spread_stays node group own groups found ne out = record {
   longer = omega arith;
 }
 
+abbrev one_if : ℕ → ℕ → ℕ
+one_if group x = cond (x == group) 1 0
+
 counted_set : (group own : ℕ) (groups : List ℕ) (node : ℕ) → group ≢ own → slice_get groups node ≡ Some group
     → suc (count_in group (slice_set groups node own)) ≡ count_in group groups
-counted_set group own groups node ne e = ?
+counted_set group own groups node ne e =
+    let l : node < length groups = slice_get_within groups node group e in
+    let v : get_or groups node 0 ≡ group = get_or_from_slice_get groups node group 0 e in
+    let sum : count_in group (slice_set groups node own) + one_if group (get_or groups node 0) ≡ count_in group groups + one_if group own =
+    sum_by-set (one_if group) groups node own 0 l in
+    let yes : one_if group (get_or groups node 0) ≡ 1 = ap (one_if group) v ∙ ap (λ (b : Bool). cond b 1 0) (eq-eqb group group refl) in
+    let no : one_if group own ≡ 0 = ap (λ (b : Bool). cond b 1 0) (ne_eqb own group (λ h. ne (sym h))) in
+    omega arith
 
 pub spread_moves : (node group own : ℕ) (groups found groups' found' : List ℕ) → group ≢ own → slice_get groups node ≡ Some group
     → groups' ≡ slice_set groups node own → found' ≡ found ++ node ∷ [] → IsSpread (node ∷ []) group own groups found groups' found'

@@ -46,3 +46,13 @@ from_node g a b e = ⊎_elim
     (λ l. absurd (let none : get_or g a [] ≡ [] = get_or_past g a [] l in
     let c : Contains [] b = subst (λ (row : List ℕ). Contains row b) none e.1 in omega (arith, c.1)))
     (below_or_not a (length g))
+
+pub reaches_node : (g : Rows) (a b : ℕ) → Reaches g a b → a < length g
+reaches_node g a b (edge e) = from_node g a b e
+reaches_node g a b (way {b = c} e p) = from_node g a c e
+
+pub mutual_transposed : (g t : Rows) (a b : ℕ) → IsTransposed g t → AreMutual t a b → AreMutual g a b
+mutual_transposed g t a b w m = ⊎_elim
+    (λ (s : a ≡ b). inl s)
+    (λ (p : Reaches t a b × Reaches t b a). inr (turned g t b a w p.1, turned g t a b w p.0))
+    m

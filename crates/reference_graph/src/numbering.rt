@@ -1,5 +1,10 @@
 // The strongly connected components of a graph.
 
+ghost use Rattle.std.specs.Prelude.{◌≡◌, ◌+◌, ◌-◌, ◌*◌, ◌/◌, ◌^◌, ◌<◌, ◌≤◌, ℕ, IfOk, length, get_or, slice_index};
+ghost use Rattle.reference_graph.specs.Graph.{IsTransposed};
+ghost use Rattle.reference_graph.specs.Reach.{AreComponents};
+ghost use Rattle.reference_graph.specs.steps.Groups.{AreGroups, IsSettled};
+
 use crate::depth_first::depth_first;
 use crate::graph::Graph;
 use crate::group::split;
@@ -21,11 +26,8 @@ impl Model for ComponentNumbers {
     ghost view = { λ c. c.numbers.items };
 }
 
-ghost use Rattle.std.specs.Prelude.{◌≡◌, ◌<◌, IfOk, length, get_or};
-ghost use Rattle.reference_graph.specs.Reach.{AreComponents};
-
 impl ComponentNumbers {
-    /// The number of a node's component, below the number of nodes.
+    /// The number of a node's component.
     pub fn number(&self, node: usize) -> usize
         requires { node < length self.now }
         ensures { result ≡ get_or self.now node 0 }
@@ -34,9 +36,10 @@ impl ComponentNumbers {
     }
 }
 
-/// Numbers the components of a graph. Takes time and memory linear in nodes and edges.
+/// Numbers the strongly connected components of a graph: two nodes have one number exactly where they are the same node or each reaches
+/// the other. Takes time and memory linear in nodes and edges.
 pub fn components(alloc: Global, graph: &Graph) -> Result<ComponentNumbers, AllocError>
-    ensures { IfOk result (λ components. AreComponents graph.now components) }
+    ensures { IfOk result (λ numbers. AreComponents graph.now numbers) }
 {
     let mut left = depth_first(alloc, graph)?.finished;
     let turned = transposed(alloc, graph)?;
@@ -44,16 +47,15 @@ pub fn components(alloc: Global, graph: &Graph) -> Result<ComponentNumbers, Allo
     let mut found = Vec::new(alloc);
     let mut count = 0;
     while let Some(node) = left.pop() {
-        if groups[node] % 2 == 1 {
-            settle(graph, &turned, node, count, &mut groups, &mut found)?;
-            count += 1;
-        }
+        count = settle(graph, &turned, node, count, &mut groups, &mut found)?;
     }
     number(&mut groups);
     Ok(ComponentNumbers { numbers: groups })
 }
 
-/// Moves the component of a node to a group of its own, the even one for `count` components so far.
+/// Moves the component of a node to a group of its own, unless it is in one, and answers how many such groups there are. The nodes of its
+/// group that reach it are found first, and then those of them that it reaches: whatever node is taken, these are its component. In the
+/// order in which a search depth first leaves nodes, from the last one on, they are the same nodes, so that none is found in vain.
 fn settle(
     graph: &Graph,
     turned: &Graph,
@@ -61,13 +63,27 @@ fn settle(
     count: usize,
     groups: &mut Vec<usize>,
     found: &mut Vec<usize>,
-) -> Result<(), AllocError> {
-    split(turned, node, groups[node], 2 * count + 3, groups, found)?;
-    split(graph, node, 2 * count + 3, 2 * count + 2, groups, found)
+) -> Result<usize, AllocError>
+    requires turned { IsTransposed graph.now turned.now }
+    requires groups { AreGroups graph.now groups.old.items count }
+    requires node { node < length graph.now }
+    requires room { count + 1 < 2 ^ 63 }
+    ensures { IfOk result (λ after. IsSettled graph.now node groups.old.items count groups.new.items after) }
+{
+    let group = groups[node];
+    if group % 2 == 0 {
+        return Ok(count);
+    }
+    split(turned, node, group, 2 * count + 3, groups, found)?;
+    split(graph, node, 2 * count + 3, 2 * count + 2, groups, found)?;
+    Ok(count + 1)
 }
 
-/// Gives component k the number k in place of that of its group, 2 * k + 2.
-fn number(groups: &mut Vec<usize>) {
+/// Numbers components from 0 on: the one with group 2 * k + 2 gets k.
+fn number(groups: &mut [usize])
+    requires { (a : ℕ) → a < length groups.old → 2 ≤ slice_index groups.old a }
+    ensures { (a : ℕ) → a < length groups.old → slice_index groups.new a ≡ slice_index groups.old a / 2 - 1 }
+{
     for group in groups.iter_mut() {
         *group = *group / 2 - 1;
     }

@@ -44,7 +44,8 @@ pub record AreGroups (g : Rows) (groups : List ℕ) (count : ℕ) : Type 0 where
   pub whole : (a b k : ℕ) → slice_get groups a ≡ Some (2 * k) → slice_get groups b ≡ Some (2 * k) → AreMutual g a b
 
 -- the component of a node has a group of its own
-pub record IsSettled (g : Rows) (node count : ℕ) (before after : List ℕ) : Type 0 where
-  pub groups : AreGroups g after (count + 1)
-  pub settled : slice_get after node ≡ Some (2 * (count + 1))
+pub record IsSettled (g : Rows) (node : ℕ) (before : List ℕ) (count : ℕ) (after : List ℕ) (count' : ℕ) : Type 0 where
+  pub groups : AreGroups g after count'
+  pub settled : (k : ℕ) × (slice_get after node ≡ Some (2 * k))
   pub kept : (a k : ℕ) → slice_get before a ≡ Some (2 * k) → slice_get after a ≡ Some (2 * k)
+  pub few : count' ≤ count + 1
