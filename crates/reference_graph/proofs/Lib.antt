@@ -5,3 +5,4 @@ pub mod Searching
 pub mod Orders
 pub mod Splitting
 pub mod Settling
+pub mod Turning

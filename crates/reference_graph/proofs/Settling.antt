@@ -165,7 +165,7 @@ next_node g left left' groups node count e n = n.nodes node (subst (λ (xs : Lis
 
 -- ---- the numbers of components
 
-pub numbers_of : (g : Rows) (left groups numbers : List ℕ) (count : ℕ) → IsNumbering g left groups count → left ≡ [] → length numbers ≡ length groups
+pub numbers_of : (g : Rows) (left groups numbers : List ℕ) (count : ℕ) → IsNumbering g left groups count → length left ≡ 0 → length numbers ≡ length groups
     → ((a : ℕ) → a < length groups → get_or numbers a 0 ≡ get_or groups a 0 / 2 - 1) → AreComponents g numbers
 numbers_of g left groups numbers count n none len each = record {
   nodes = len ∙ n.groups_are.nodes;
@@ -185,7 +185,7 @@ numbers_of g left groups numbers count n none len each = record {
   where
     place : (a : ℕ) → a < length g → (k : ℕ) × (slice_get groups a ≡ Some (2 * k))
     place a l = ⊎_elim
-        (λ (c : Contains left a). absurd (let d : Contains [] a = subst (λ (xs : List ℕ). Contains xs a) none c in omega (arith, d.1)))
+        (λ (c : Contains left a). absurd (omega (arith, c.1)))
         (λ (s : (k : ℕ) × (slice_get groups a ≡ Some (2 * k))). s)
         (n.waiting a l)
 
@@ -210,3 +210,11 @@ numbers_of g left groups numbers count n none len each = record {
         let t = place b lb in
         let same : 2 * s.0 ≡ 2 * t.0 = one_value groups a (2 * s.0) (2 * t.0) s.1 (n.groups_are.together a b m ∙ t.1) in
         omega (arith, number a la, number b lb)
+
+pub groups_even : (g : Rows) (left groups : List ℕ) (count : ℕ) → IsNumbering g left groups count → length left ≡ 0
+    → (a : ℕ) → a < length groups → 2 ≤ get_or groups a 0
+groups_even g left groups count n none a l = ⊎_elim
+    (λ (c : Contains left a). absurd (omega (arith, c.1)))
+    (λ (s : (k : ℕ) × (slice_get groups a ≡ Some (2 * k))).
+    omega (arith, get_or_from_slice_get groups a (2 * s.0) 0 s.1, (n.groups_are.small a (2 * s.0) s.1).0))
+    (n.waiting a (omega (arith, n.groups_are.nodes)))

@@ -80,11 +80,12 @@ fn settle(
 }
 
 /// Numbers components from 0 on: the one with group 2 * k + 2 gets k.
-fn number(groups: &mut [usize])
-    requires { (a : ℕ) → a < length groups.old → 2 ≤ slice_index groups.old a }
-    ensures { (a : ℕ) → a < length groups.old → slice_index groups.new a ≡ slice_index groups.old a / 2 - 1 }
+fn number(groups: &mut Vec<usize>)
+    requires { (a : ℕ) → a < length groups.old.items → 2 ≤ slice_index groups.old.items a }
+    ensures long { length groups.new.items ≡ length groups.old.items }
+    ensures each { (a : ℕ) → a < length groups.old.items → slice_index groups.new.items a ≡ slice_index groups.old.items a / 2 - 1 }
 {
-    for group in groups.iter_mut() {
-        *group = *group / 2 - 1;
+    for node in 0..groups.len() {
+        groups[node] = groups[node] / 2 - 1;
     }
 }

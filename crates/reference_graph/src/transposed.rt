@@ -16,7 +16,8 @@ pub(crate) fn transposed(alloc: Global, graph: &Graph) -> Result<Graph, AllocErr
     for node in 0..graph.nodes() {
         add_source(node, graph.targets(node), &mut sources)?;
     }
-    Graph::of(alloc, &sources)
+    let turned = Graph::of(alloc, &sources)?;
+    Ok(turned)
 }
 
 fn no_sources(alloc: Global, nodes: usize) -> Result<Vec<Items<usize>>, AllocError>
