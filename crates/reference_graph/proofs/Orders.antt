@@ -1,8 +1,6 @@
 -- From what a search listed to an order.
-use Rattle.std.proofs.Common.{◌≡◌, ℕ, ◌<◌, Bool, true, false, List, length, arith, refl, sym, inl, inr, ⊎_elim}
-use Rattle.std.specs.Prelude.{◌⊎◌, ◌↔◌, slice_get, Some}
-use Rattle.std.specs.List.{Contains}
-use Rattle.reference_graph.specs.Graph.{Rows, Edge}
+use Rattle.std.proofs.Common.{◌≡◌, ℕ, Bool, false, List, arith}
+use Rattle.reference_graph.specs.Graph.{Rows}
 use Rattle.reference_graph.specs.Reach.{Reaches, StandsBefore, IsOrder, HasCycle}
 use Rattle.reference_graph.specs.Reach.Reaches.{edge, way}
 use Rattle.reference_graph.specs.steps.DepthFirst.{IsSearched}

@@ -1,5 +1,5 @@
 -- What is kept where a search enters a node, and where it leaves one.
-use Rattle.std.proofs.Common.{◌≡◌, ◌≢◌, ℕ, zero, suc, ◌+◌, ◌*◌, ◌<◌, ◌≤◌, Bool, true, false, Option, Some, None, List, [], ◌∷◌, ◌++◌, length, get_or, map, replicate, arith, refl, sym, subst, ap, ◌∙◌, inl, inr, ⊎_elim}
+use Rattle.std.proofs.Common.{◌≡◌, ◌≢◌, ℕ, zero, suc, ◌+◌, ◌<◌, ◌≤◌, Bool, true, false, Some, None, List, [], ◌∷◌, ◌++◌, length, get_or, replicate, arith, refl, sym, subst, ap, ◌∙◌, inl, inr, ⊎_elim}
 use Rattle.std.specs.Prelude.{◌⊎◌, slice_get, slice_set}
 use Rattle.std.specs.List.{Contains}
 use Rattle.std.proofs.lemmas.List.{length-set, length-replicate, length_push, map_push}
@@ -363,10 +363,11 @@ visit_start g marks marks' root stack stack' finished finished' cyclic cyclic' s
 pub visit_taken : (g : Rows) (start : List Mark) (root : ℕ) (marks : List Mark) (stack below : List Frame) (finished : List ℕ) (cyclic : Bool) (frame : Frame)
     → IsVisit g start root marks stack finished cyclic → stack ≡ below ++ frame ∷ []
     → IsSearch g marks (way_of below ++ frame.node ∷ []) finished cyclic × HavePassed g marks (below ++ frame ∷ [])
-visit_taken g start root marks stack below finished cyclic frame v e =
-    (subst (λ (w : List ℕ). IsSearch g marks w finished cyclic)
-    (ap (λ (fs : List Frame). way_of fs) e ∙ map_push (λ (f : Frame). f.node) below frame) v.search,
-    subst (λ (fs : List Frame). HavePassed g marks fs) e v.passed)
+visit_taken g start root marks stack below finished cyclic frame v e = (
+  subst (λ (w : List ℕ). IsSearch g marks w finished cyclic)
+      (ap (λ (fs : List Frame). way_of fs) e ∙ map_push (λ (f : Frame). f.node) below frame) v.search,
+  subst (λ (fs : List Frame). HavePassed g marks fs) e v.passed,
+)
 
 pub visit_more : (g : Rows) (start : List Mark) (root : ℕ) (marks marks' : List Mark) (stack below stack' : List Frame) (finished finished' : List ℕ)
     (cyclic cyclic' : Bool) → IsVisit g start root marks stack finished cyclic → IsStep g marks below marks' stack' finished' cyclic'

@@ -1,14 +1,14 @@
 -- Why the nodes that are split off are a component, and what is kept until each node is in one.
-use Rattle.std.proofs.Common.{◌≡◌, ◌≢◌, ℕ, zero, suc, ◌+◌, ◌-◌, ◌*◌, ◌/◌, ◌<◌, ◌≤◌, Bool, Option, Some, List, [], ◌∷◌, ◌++◌, length, get_or, replicate, arith, refl, sym, subst, ap, ◌∙◌, inl, inr, ⊎_elim}
-use Rattle.std.specs.Prelude.{◌⊎◌, ◌↔◌, slice_get}
+use Rattle.std.proofs.Common.{◌≡◌, ℕ, ◌+◌, ◌-◌, ◌*◌, ◌/◌, ◌<◌, ◌≤◌, Bool, Some, List, [], ◌∷◌, ◌++◌, length, get_or, replicate, arith, sym, subst, ap, ◌∙◌, inl, inr, ⊎_elim}
+use Rattle.std.specs.Prelude.{◌⊎◌, slice_get}
 use Rattle.std.specs.List.{Contains}
 use Rattle.std.proofs.lemmas.List.{length_push, length-replicate}
 use Rattle.std.proofs.lemmas.List.Elements.{Contains-append_left, Contains-push, Contains-push_cases}
 use Rattle.std.proofs.lemmas.Option.{get_or_from_slice_get}
-use Rattle.reference_graph.specs.Graph.{Rows, Edge, IsTransposed}
+use Rattle.reference_graph.specs.Graph.{Rows, IsTransposed}
 use Rattle.reference_graph.specs.Reach.{Reaches, AreMutual, AreComponents}
 use Rattle.reference_graph.specs.Reach.Reaches.{edge, way}
-use Rattle.reference_graph.specs.steps.Groups.{IsFrom, IsMoved, IsSplit, AreGroups, IsSettled}
+use Rattle.reference_graph.specs.steps.Groups.{IsFrom, IsSplit, AreGroups, IsSettled}
 use Rattle.reference_graph.specs.steps.DepthFirst.{IsSearched}
 use Rattle.reference_graph.proofs.Places.{one_value, replicated, replicate_here}
 use Rattle.reference_graph.proofs.Ways.{both, mutual_turned, mutual_both, mutual_transposed, transposed_back, turned, from_node, reaches_node}
@@ -172,15 +172,16 @@ numbers_of g left groups numbers count n none len each = record {
   below = λ a l. let v = number a l in let s = place a l in omega (arith, n.few, (n.groups_are.small a (2 * s.0) s.1).0, (n.groups_are.small a (2 * s.0) s.1).1);
   same = λ a b la lb. (λ e. alike a b la lb e, λ m. one a b la lb m);
   cycles = λ a b e.
-      let la = from_node g a b e in
-      (λ h. ⊎_elim
-      (λ (s : a ≡ b). inl (sym s))
-      (λ (r : Reaches g a b × Reaches g b a). inr r.1)
-      (alike a b la e.0 h),
-      λ h. ⊎_elim
-      (λ (s : b ≡ a). ap (λ (k : ℕ). get_or numbers k 0) (sym s))
-      (λ (r : Reaches g b a). one a b la e.0 (inr (edge e, r)))
-      h);
+      let la = from_node g a b e in (
+        λ h. ⊎_elim
+            (λ (s : a ≡ b). inl (sym s))
+            (λ (r : Reaches g a b × Reaches g b a). inr r.1)
+            (alike a b la e.0 h),
+        λ h. ⊎_elim
+            (λ (s : b ≡ a). ap (λ (k : ℕ). get_or numbers k 0) (sym s))
+            (λ (r : Reaches g b a). one a b la e.0 (inr (edge e, r)))
+            h,
+      );
 }
   where
     place : (a : ℕ) → a < length g → (k : ℕ) × (slice_get groups a ≡ Some (2 * k))

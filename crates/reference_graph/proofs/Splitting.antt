@@ -1,7 +1,7 @@
 -- What is kept while a group is split.
-use Rattle.std.proofs.Common.{◌≡◌, ◌≢◌, ℕ, zero, suc, ◌+◌, ◌<◌, ◌≤◌, ◌==◌, Bool, true, false, cond, Option, Some, None, List, [], ◌∷◌, ◌++◌, length, get_or, take, arith, refl, sym, subst, ap, ◌∙◌, inl, inr, ⊎_elim, eq-eqb}
+use Rattle.std.proofs.Common.{◌≡◌, ◌≢◌, ℕ, zero, suc, ◌+◌, ◌<◌, ◌≤◌, ◌==◌, Bool, cond, Some, List, [], ◌∷◌, ◌++◌, length, get_or, take, arith, refl, sym, subst, ap, ◌∙◌, inl, inr, ⊎_elim, eq-eqb}
 use Rattle.std.proofs.lemmas.Bool.{ne_eqb}
-use Rattle.std.specs.Prelude.{◌⊎◌, slice_get, slice_set}
+use Rattle.std.specs.Prelude.{slice_get, slice_set}
 use Rattle.std.specs.List.{Contains}
 use Rattle.std.proofs.lemmas.List.{length-set, length_push, take_more}
 use Rattle.std.proofs.lemmas.List.Elements.{Contains-append_left, Contains-append_right, Contains-push, Contains-push_cases}
@@ -11,7 +11,7 @@ use Rattle.reference_graph.specs.Graph.{Rows, Edge, targets}
 use Rattle.reference_graph.specs.Reach.{Reaches}
 use Rattle.reference_graph.specs.Reach.Reaches.{edge}
 use Rattle.reference_graph.specs.steps.Groups.{IsFrom, IsMoved, IsSplit, IsSpread, count_in}
-use Rattle.reference_graph.proofs.Places.{same_or_not, below_or_not, one_value, contained, place_of, push_left, push_last, push_cases, set_here, set_else}
+use Rattle.reference_graph.proofs.Places.{same_or_not, one_value, contained, place_of, push_left, push_cases, set_here, set_else}
 use Rattle.reference_graph.proofs.Ways.{then_edge}
 
 -- no node is in two groups
@@ -76,8 +76,11 @@ pub spread_moves : (node group own : ℕ) (groups found groups' found' : List �
 spread_moves node group own groups found groups' found' ne e eg ef = rw (eg, ef) (record {
   nodes = length-set groups node own;
   moved = λ x. ⊎_elim
-      (λ (s : x ≡ node). inr (subst (λ (n : ℕ). slice_get groups n ≡ Some group) (sym s) e,
-      subst (λ (n : ℕ). slice_get (slice_set groups node own) n ≡ Some own) (sym s) here, (0, omega arith, sym s)))
+      (λ (s : x ≡ node). inr (
+        subst (λ (n : ℕ). slice_get groups n ≡ Some group) (sym s) e,
+        subst (λ (n : ℕ). slice_get (slice_set groups node own) n ≡ Some own) (sym s) here,
+        (0, omega arith, sym s),
+      ))
       (λ (d : x ≢ node). inl (set_else groups node x own d))
       (same_or_not x node);
   reached = λ x c p. subst (λ (n : ℕ). slice_get (slice_set groups node own) n ≡ Some own) (only node x c) here;
@@ -88,8 +91,10 @@ spread_moves node group own groups found groups' found' ne e eg ef = rw (eg, ef)
   kept = λ i x p. push_left found node i x p;
   added = λ i x p. ⊎_elim
       (λ (q : slice_get found i ≡ Some x). inl q)
-      (λ (q : (i ≡ length found) × (node ≡ x)). inr (subst (λ (n : ℕ). slice_get groups n ≡ Some group) q.1 e,
-      subst (λ (n : ℕ). slice_get (slice_set groups node own) n ≡ Some own) q.1 here))
+      (λ (q : (i ≡ length found) × (node ≡ x)). inr (
+        subst (λ (n : ℕ). slice_get groups n ≡ Some group) q.1 e,
+        subst (λ (n : ℕ). slice_get (slice_set groups node own) n ≡ Some own) q.1 here,
+      ))
       (push_cases found node i x p);
   counted = omega (arith, length_push found node, counted_set group own groups node ne e);
   longer = omega (arith, length_push found node);

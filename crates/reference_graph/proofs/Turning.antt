@@ -1,6 +1,6 @@
 -- What is kept while edges are turned round.
 use Rattle.std.proofs.Common.{◌≡◌, ◌≢◌, ℕ, zero, suc, ◌+◌, ◌<◌, ◌≤◌, List, [], ◌∷◌, ◌++◌, length, get_or, replicate, take, arith, refl, sym, subst, ap, ◌∙◌, inl, inr, ⊎_elim, get_or-set_other}
-use Rattle.std.specs.Prelude.{◌⊎◌, slice_set}
+use Rattle.std.specs.Prelude.{slice_set}
 use Rattle.std.specs.List.{Contains}
 use Rattle.std.proofs.lemmas.List.{length-set, length-replicate, get_or-set_same, get_or-replicate, get_or_past, take_more}
 use Rattle.std.proofs.lemmas.List.Elements.{Contains-append_left, Contains-append_right, Contains-push, Contains-push_cases}

@@ -1,9 +1,8 @@
 -- Ways in graphs.
-use Rattle.std.proofs.Common.{◌≡◌, ℕ, ◌<◌, List, [], length, get_or, arith, refl, sym, subst, ◌∙◌, inl, inr, ⊎_elim}
-use Rattle.std.specs.Prelude.{◌⊎◌}
+use Rattle.std.proofs.Common.{◌≡◌, ℕ, ◌<◌, List, [], length, get_or, arith, sym, subst, inl, inr, ⊎_elim}
 use Rattle.std.specs.List.{Contains}
 use Rattle.std.proofs.lemmas.List.{get_or_past}
-use Rattle.reference_graph.specs.Graph.{Rows, Edge, targets, IsTransposed}
+use Rattle.reference_graph.specs.Graph.{Rows, Edge, IsTransposed}
 use Rattle.reference_graph.specs.Reach.{Reaches, AreMutual}
 use Rattle.reference_graph.specs.Reach.Reaches.{edge, way}
 use Rattle.reference_graph.proofs.Places.{below_or_not}

@@ -1,5 +1,5 @@
--- Graphs as contracts see them. Nodes are numbered from 0; for each there is the list of its targets, in which a node may stand more than
--- once. A target that is no node makes no edge.
+-- Graphs as contracts see them. Nodes are numbered from 0; for each there is the list of its targets, in which a
+-- node may stand more than once. A target that is no node makes no edge.
 use Rattle.std.specs.Prelude.{◌≡◌, ℕ, ◌<◌, List, [], ◌∷◌, ◌++◌, length, get_or}
 use Rattle.std.specs.List.{Contains}
 

@@ -23,8 +23,8 @@ pub(crate) struct Frame {
     pub(crate) next: usize,
 }
 
-/// A search: the marks of the nodes, the nodes on the way to the one that is searched, those that were left, first to last, and whether a
-/// cycle was met.
+/// A search: the marks of the nodes, the nodes on the way to the one that is searched, those that were left,
+/// first to last, and whether a cycle was met.
 #[derive(Drop)]
 pub(crate) struct Search {
     marks: Vec<Mark>,
@@ -53,9 +53,11 @@ impl Search {
     /// Searches a node and what it reaches, as far as that is new.
     fn visit(&mut self, graph: &Graph, root: usize) -> Result<(), AllocError>
         requires stack { self.old.stack.items ≡ [] }
-        requires search { steps.IsSearch graph.now self.old.marks.items [] self.old.finished.items self.old.cyclic }
+        requires search { steps.IsSearch graph.now self.old.marks.items [] self.old.finished.items
+            self.old.cyclic }
         ensures stack { OnOk result (self.new.stack.items ≡ []) }
-        ensures search { OnOk result (steps.IsSearch graph.now self.new.marks.items [] self.new.finished.items self.new.cyclic) }
+        ensures search { OnOk result (steps.IsSearch graph.now self.new.marks.items [] self.new.finished.items
+            self.new.cyclic) }
         ensures seen { OnOk result (steps.KeepsSeen self.old.marks.items self.new.marks.items) }
         ensures root { OnOk result (steps.IsSeen self.new.marks.items root) }
     {
@@ -68,12 +70,15 @@ impl Search {
         Ok(())
     }
 
-    /// Goes on at a frame that was taken off the stack: enters the next target that is new, or leaves the node.
+    /// Goes on at a frame that was taken off the stack: enters the next target that is new, or leaves the
+    /// node.
     fn step(&mut self, graph: &Graph, frame: Frame) -> Result<(), AllocError>
-        requires search { steps.IsSearch graph.now self.old.marks.items (steps.way_of self.old.stack.items ++ frame.node ∷ []) self.old.finished.items self.old.cyclic }
-        requires passed { steps.HavePassed graph.now self.old.marks.items (self.old.stack.items ++ frame ∷ []) }
-        ensures { OnOk result (steps.IsStep graph.now self.old.marks.items self.old.stack.items self.new.marks.items self.new.stack.items
-            self.new.finished.items self.new.cyclic) }
+        requires search { steps.IsSearch graph.now self.old.marks.items
+            (steps.way_of self.old.stack.items ++ frame.node ∷ []) self.old.finished.items self.old.cyclic }
+        requires passed { steps.HavePassed graph.now self.old.marks.items
+            (self.old.stack.items ++ frame ∷ []) }
+        ensures { OnOk result (steps.IsStep graph.now self.old.marks.items self.old.stack.items
+            self.new.marks.items self.new.stack.items self.new.finished.items self.new.cyclic) }
     {
         let row = graph.targets(frame.node);
         let at = first_new(row, frame.next, &self.marks);
@@ -92,8 +97,10 @@ impl Search {
     /// Enters a new node.
     fn enter(&mut self, node: usize) -> Result<(), AllocError>
         requires { node < vec_len self.old.marks }
-        ensures marks { OnOk result (self.new.marks.items ≡ slice_set self.old.marks.items node Mark.Open) }
-        ensures stack { OnOk result (self.new.stack.items ≡ self.old.stack.items ++ record { node = node; next = 0 } ∷ []) }
+        ensures marks { OnOk result
+            (self.new.marks.items ≡ slice_set self.old.marks.items node Mark.Open) }
+        ensures stack { OnOk result
+            (self.new.stack.items ≡ self.old.stack.items ++ record { node = node; next = 0 } ∷ []) }
         ensures finished { self.new.finished.items ≡ self.old.finished.items }
         ensures cyclic { self.new.cyclic ≡ self.old.cyclic }
     {
@@ -105,9 +112,11 @@ impl Search {
     /// Leaves a node whose targets were all entered. One that was not left is on the way to the node.
     fn leave(&mut self, row: &[usize], node: usize) -> Result<(), AllocError>
         requires { node < vec_len self.old.marks }
-        ensures marks { OnOk result (self.new.marks.items ≡ slice_set self.old.marks.items node Mark.Finished) }
+        ensures marks { OnOk result
+            (self.new.marks.items ≡ slice_set self.old.marks.items node Mark.Finished) }
         ensures stack { self.new.stack.items ≡ self.old.stack.items }
-        ensures finished { OnOk result (self.new.finished.items ≡ self.old.finished.items ++ node ∷ []) }
+        ensures finished { OnOk result
+            (self.new.finished.items ≡ self.old.finished.items ++ node ∷ []) }
         ensures cyclic { steps.Meets row.now self.old.marks.items self.old.cyclic self.new.cyclic }
     {
         if meets_open(row, &self.marks) {
@@ -143,7 +152,8 @@ fn is_open(marks: &[Mark], node: usize) -> bool
 fn first_new(row: &[usize], from: usize, marks: &[Mark]) -> usize
     ensures within { result ≤ length row.now }
     ensures passed { (k : ℕ) → from ≤ k → k < result → steps.IsSeen marks.now (slice_index row.now k) }
-    ensures found { result < length row.now → slice_get marks.now (slice_index row.now result) ≡ Some Mark.New }
+    ensures found { result < length row.now →
+        slice_get marks.now (slice_index row.now result) ≡ Some Mark.New }
 {
     for at in from..row.len() {
         if is_new(marks, row[at]) {
@@ -155,8 +165,10 @@ fn first_new(row: &[usize], from: usize, marks: &[Mark]) -> usize
 
 /// Whether one of the numbers is that of a node that was entered and not left.
 fn meets_open(row: &[usize], marks: &[Mark]) -> bool
-    ensures yes { result ≡ true → (b : ℕ) × Contains row.now b × (slice_get marks.now b ≡ Some Mark.Open) }
-    ensures no { result ≡ false → (b : ℕ) → Contains row.now b → slice_get marks.now b ≢ Some Mark.Open }
+    ensures yes { result ≡ true →
+        (b : ℕ) × Contains row.now b × (slice_get marks.now b ≡ Some Mark.Open) }
+    ensures no { result ≡ false →
+        (b : ℕ) → Contains row.now b → slice_get marks.now b ≢ Some Mark.Open }
 {
     for target in row {
         if is_open(marks, *target) {

@@ -7,8 +7,8 @@ use std::alloc::{AllocError, Global};
 use std::marker::Model;
 use tree_items::Items;
 
-/// Nodes numbered from 0, each with its targets. To contracts it is the list of each node's targets. Takes one number a node and one a
-/// target.
+/// Nodes numbered from 0, each with its targets. To contracts it is the list of each node's targets. Takes
+/// one number a node and one a target.
 #[derive(Debug, Drop)]
 pub struct Graph {
     starts: Vec<usize>,

@@ -6,8 +6,8 @@ ghost use Rattle.reference_graph.specs.steps.Groups.{IsSplit, IsSpread};
 use crate::graph::Graph;
 use std::alloc::AllocError;
 
-/// Moves a node, and each that it reaches by ways through nodes of its group, to a group of their own. `found` is room for the search.
-/// Takes time linear in the moved nodes and their edges.
+/// Moves a node, and each that it reaches by ways through nodes of its group, to a group of their own. `found`
+/// is room for the search. Takes time linear in the moved nodes and their edges.
 pub(crate) fn split(
     graph: &Graph,
     root: usize,
@@ -40,7 +40,8 @@ fn move_nodes(
     found: &mut Vec<usize>,
 ) -> Result<(), AllocError>
     requires { group ≢ own }
-    ensures { OnOk result (IsSpread row.now group own groups.old.items found.old.items groups.new.items found.new.items) }
+    ensures { OnOk result
+        (IsSpread row.now group own groups.old.items found.old.items groups.new.items found.new.items) }
 {
     for target in row {
         move_node(*target, group, own, groups, found)?;
@@ -57,7 +58,8 @@ fn move_node(
     found: &mut Vec<usize>,
 ) -> Result<(), AllocError>
     requires { group ≢ own }
-    ensures { OnOk result (IsSpread (node ∷ []) group own groups.old.items found.old.items groups.new.items found.new.items) }
+    ensures { OnOk result
+        (IsSpread (node ∷ []) group own groups.old.items found.old.items groups.new.items found.new.items) }
 {
     if !is_in(groups, node, group) {
         return Ok(());

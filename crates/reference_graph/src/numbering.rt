@@ -36,8 +36,8 @@ impl ComponentNumbers {
     }
 }
 
-/// Numbers the strongly connected components of a graph: two nodes have one number exactly where they are the same node or each reaches
-/// the other. Takes time and memory linear in nodes and edges.
+/// Numbers the strongly connected components of a graph: two nodes have one number exactly where they are the
+/// same node or each reaches the other. Takes time and memory linear in nodes and edges.
 pub fn components(alloc: Global, graph: &Graph) -> Result<ComponentNumbers, AllocError>
     ensures { IfOk result (λ numbers. AreComponents graph.now numbers) }
 {
@@ -53,9 +53,10 @@ pub fn components(alloc: Global, graph: &Graph) -> Result<ComponentNumbers, Allo
     Ok(ComponentNumbers { numbers: groups })
 }
 
-/// Moves the component of a node to a group of its own, unless it is in one, and answers how many such groups there are. The nodes of its
-/// group that reach it are found first, and then those of them that it reaches: whatever node is taken, these are its component. In the
-/// order in which a search depth first leaves nodes, from the last one on, they are the same nodes, so that none is found in vain.
+/// Moves the component of a node to a group of its own, unless it is in one, and answers how many such groups
+/// there are. The nodes of its group that reach it are found first, and then those of them that it reaches:
+/// whatever node is taken, these are its component. Where nodes are taken in the order in which a search depth
+/// first leaves them, from the last one on, both are the same nodes, so that none is found in vain.
 fn settle(
     graph: &Graph,
     turned: &Graph,
@@ -68,7 +69,8 @@ fn settle(
     requires groups { AreGroups graph.now groups.old.items count }
     requires node { node < length graph.now }
     requires room { count + 1 < 2 ^ 63 }
-    ensures { IfOk result (λ after. IsSettled graph.now node groups.old.items count groups.new.items after) }
+    ensures { IfOk result
+        (λ after. IsSettled graph.now node groups.old.items count groups.new.items after) }
 {
     let group = groups[node];
     if group % 2 == 0 {
@@ -83,7 +85,8 @@ fn settle(
 fn number(groups: &mut Vec<usize>)
     requires { (a : ℕ) → a < length groups.old.items → 2 ≤ slice_index groups.old.items a }
     ensures long { length groups.new.items ≡ length groups.old.items }
-    ensures each { (a : ℕ) → a < length groups.old.items → slice_index groups.new.items a ≡ slice_index groups.old.items a / 2 - 1 }
+    ensures each { (a : ℕ) → a < length groups.old.items →
+        slice_index groups.new.items a ≡ slice_index groups.old.items a / 2 - 1 }
 {
     for node in 0..groups.len() {
         groups[node] = groups[node] / 2 - 1;

@@ -4,7 +4,8 @@ use std::alloc::AllocError;
 use std::test::Fail;
 use tree_items::Items;
 
-/// A graph of five nodes, built node by node: 0 to 1, 1 to 2 twice and to 3, 2 to 1, 3 to 3 and to a number that is no node.
+/// A graph of five nodes, built node by node: 0 to 1, 1 to 2 twice and to 3, 2 to 1, 3 to 3 and to a number
+/// that is no node.
 fn small(rt: &HostRuntime) -> Result<Graph, AllocError> {
     let mut graph = Graph::new(rt.alloc());
     graph.add_node(&[1])?;
@@ -15,7 +16,7 @@ fn small(rt: &HostRuntime) -> Result<Graph, AllocError> {
     Ok(graph)
 }
 
-/// Two diamonds, built target by target: 0 to 1 and 2, both to 3, 3 to 4 and 5, both to 6.
+/// Two diamonds, built from rows: 0 to 1 and 2, both to 3, 3 to 4 and 5, both to 6.
 fn diamonds(rt: &HostRuntime) -> Result<Graph, AllocError> {
     let rows: [&[usize]; 7] = [&[1, 2], &[3], &[3], &[4, 5], &[6], &[6], &[]];
     let mut items = Vec::new(rt.alloc());

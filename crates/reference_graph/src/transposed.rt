@@ -48,7 +48,8 @@ fn add_source(
 
 fn push_at(sources: &mut Vec<Items<usize>>, at: usize, node: usize) -> Result<(), AllocError>
     requires { at < vec_len sources.old }
-    ensures { OnOk result (sources.new.items ≡ slice_set sources.old.items at (targets sources.old.items at ++ node ∷ [])) }
+    ensures { OnOk result
+        (sources.new.items ≡ slice_set sources.old.items at (targets sources.old.items at ++ node ∷ [])) }
 {
     sources[at].push(node)
 }

@@ -1,5 +1,5 @@
 -- What is kept in a search depth first, and what is known once all nodes were searched.
-use Rattle.std.specs.Prelude.{◌≡◌, ◌≢◌, ℕ, zero, suc, ◌+◌, ◌*◌, ◌<◌, ◌≤◌, ◌⊎◌, Bool, true, false, List, [], ◌∷◌, ◌++◌, Some, length, map, slice_get}
+use Rattle.std.specs.Prelude.{◌≡◌, ◌≢◌, ℕ, suc, ◌+◌, ◌*◌, ◌<◌, ◌≤◌, ◌⊎◌, Bool, true, false, List, [], ◌∷◌, Some, length, map, slice_get}
 use Rattle.std.specs.List.{Contains}
 use Rattle.reference_graph.specs.declared.depth_first.Mark.{Mark}
 use Rattle.reference_graph.specs.declared.depth_first.Mark.TheVariants.{New, Open, Finished}
@@ -26,8 +26,8 @@ KeepsSeen before after = (x : ℕ) → IsSeen before x → IsSeen after x
 abbrev pub way_of : List Frame → List ℕ
 way_of stack = map (λ f. f.node) stack
 
--- A search of the graph. Open nodes are those of the way, each of which reaches those behind it; finished ones are listed, each once. Where
--- no cycle was met, each finished node is listed behind its targets.
+-- A search of the graph. Open nodes are those of the way, each of which reaches those behind it; finished ones are
+-- listed, each once. Where no cycle was met, each finished node is listed behind its targets.
 pub record IsSearch (g : Rows) (marks : List Mark) (way finished : List ℕ) (cyclic : Bool) : Type 0 where
   pub nodes : length marks ≡ length g
   pub open_listed : (x : ℕ) → slice_get marks x ≡ Some Open → Contains way x
@@ -42,7 +42,9 @@ pub record IsSearch (g : Rows) (marks : List Mark) (way finished : List ℕ) (cy
 
 -- no target that a frame has passed is new
 abbrev pub HavePassed : Rows → List Mark → List Frame → Type 0
-HavePassed g marks stack = (i k b : ℕ) (f : Frame) → slice_get stack i ≡ Some f → k < f.next → slice_get (targets g f.node) k ≡ Some b → IsSeen marks b
+HavePassed g marks stack =
+    (i k b : ℕ) (f : Frame) → slice_get stack i ≡ Some f → k < f.next → slice_get (targets g f.node) k ≡ Some b
+    → IsSeen marks b
 
 -- a cycle is met where one of the targets is open
 abbrev pub Meets : List ℕ → List Mark → Bool → Bool → Type 0
@@ -51,7 +53,8 @@ Meets row marks before after =
     ⊎ ((after ≡ true) × ((b : ℕ) × Contains row b × (slice_get marks b ≡ Some Open)))
 
 -- after a step, in which a frame was taken off the stack
-pub record IsStep (g : Rows) (marks : List Mark) (stack : List Frame) (marks' : List Mark) (stack' : List Frame) (finished : List ℕ) (cyclic : Bool) : Type 0 where
+pub record IsStep (g : Rows) (marks : List Mark) (stack : List Frame) (marks' : List Mark) (stack' : List Frame)
+    (finished : List ℕ) (cyclic : Bool) : Type 0 where
   pub search : IsSearch g marks' (way_of stack') finished cyclic
   pub passed : HavePassed g marks' stack'
   pub seen : KeepsSeen marks marks'

@@ -1,5 +1,6 @@
--- What is kept while groups of nodes are split into components. Even groups are components, odd ones are yet to be split.
-use Rattle.std.specs.Prelude.{◌≡◌, ℕ, zero, suc, ◌+◌, ◌*◌, ◌<◌, ◌≤◌, ◌⊎◌, ◌==◌, List, [], ◌∷◌, Some, length, slice_get}
+-- What is kept while groups of nodes are split into components. Even groups are components, odd ones are yet to
+-- be split.
+use Rattle.std.specs.Prelude.{◌≡◌, ℕ, ◌+◌, ◌*◌, ◌≤◌, ◌⊎◌, ◌==◌, List, Some, length, slice_get}
 use Rattle.std.specs.List.{Contains, count_by}
 use Rattle.reference_graph.specs.Graph.{Rows, Edge}
 use Rattle.reference_graph.specs.Reach.{Reaches, AreMutual}
@@ -25,18 +26,20 @@ pub record IsSplit (g : Rows) (root group own : ℕ) (before after : List ℕ) :
 abbrev pub count_in : ℕ → List ℕ → ℕ
 count_in group groups = count_by (λ v. v == group) groups
 
--- the nodes of a list that are in the group were moved to the other one, and listed behind those that were found before
+-- the nodes of a list that are in the group were moved to the other one, and listed behind those found before
 pub record IsSpread (row : List ℕ) (group own : ℕ) (before found after found' : List ℕ) : Type 0 where
   pub nodes : length after ≡ length before
   pub moved : (x : ℕ) → IsMoved group own before after (Contains row) x
   pub reached : (x : ℕ) → Contains row x → slice_get before x ≡ Some group → slice_get after x ≡ Some own
   pub listed : (x : ℕ) → slice_get before x ≡ Some group → slice_get after x ≡ Some own → Contains found' x
   pub kept : (i x : ℕ) → slice_get found i ≡ Some x → slice_get found' i ≡ Some x
-  pub added : (i x : ℕ) → slice_get found' i ≡ Some x → (slice_get found i ≡ Some x) ⊎ ((slice_get before x ≡ Some group) × (slice_get after x ≡ Some own))
+  pub added : (i x : ℕ) → slice_get found' i ≡ Some x
+      → (slice_get found i ≡ Some x) ⊎ ((slice_get before x ≡ Some group) × (slice_get after x ≡ Some own))
   pub counted : length found' + count_in group after ≡ length found + count_in group before
   pub longer : length found ≤ length found'
 
--- Groups of nodes, where the even ones are whole components. Mutual nodes are in one group, and groups 2 * count + 2 and up are empty.
+-- Groups of nodes, where the even ones are whole components. Mutual nodes are in one group, and groups from
+-- 2 * count + 2 on are empty.
 pub record AreGroups (g : Rows) (groups : List ℕ) (count : ℕ) : Type 0 where
   pub nodes : length groups ≡ length g
   pub small : (a v : ℕ) → slice_get groups a ≡ Some v → (1 ≤ v) × (v ≤ 2 * count + 1)

@@ -1,4 +1,4 @@
-use Rattle.std.proofs.Common.{rules, ◌≡◌, ◌≢◌, ◌<◌, ℕ, List, [], length, replicate, false, arith, sym, subst, ap, ◌∙◌, ⊎_elim}
+use Rattle.std.proofs.Common.{rules, ◌≡◌, ◌≢◌, ℕ, List, [], replicate, false, arith, sym, subst, ap, ◌∙◌, ⊎_elim}
 use Rattle.reference_graph.specs.declared.depth_first.Mark.TheVariants.{New}
 use Rattle.reference_graph.specs.steps.DepthFirst.{IsSearch, IsSeen}
 use Rattle.reference_graph.proofs.Places.{same_or_not}

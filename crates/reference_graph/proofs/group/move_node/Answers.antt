@@ -1,6 +1,6 @@
 use Rattle.std.proofs.Common.{◌≡◌, Some, List, ℕ, subst, refl}
 use Rattle.std.specs.Prelude.{slice_get, slice_set}
-use Rattle.reference_graph.proofs.Splitting.{spread_stays, spread_moves}
+use Rattle.reference_graph.proofs.Splitting.{spread_moves}
 use Rattle.reference_graph.proofs.group.move_node.Goals as goal
 
 pub returns : goal.returns

@@ -1,4 +1,4 @@
-use Rattle.std.proofs.Common.{rules, ◌≡◌, ◌+◌, ◌<◌, ◌≤◌, ◌∙◌, ℕ, List, length, replicate, arith, ap}
+use Rattle.std.proofs.Common.{rules, ◌≡◌, ◌+◌, ◌∙◌, ℕ, List, length, replicate, arith, ap}
 use Rattle.std.proofs.lemmas.List.{length_push}
 use Rattle.reference_graph.proofs.Settling.{numbering_start, numbering_more, next_node, numbers_of, groups_even}
 use Rattle.reference_graph.proofs.numbering.components.Goals as goal
@@ -29,8 +29,14 @@ settle-requires c =
       groups = c.loop-node.invariant.groups_are;
       node = next_node c.args.graph.now c.loop-node.left.items c.pop.new.self.items c.loop-node.groups.items c.in-Some.node c.loop-node.count
           c.in-Some.ensures.items c.loop-node.invariant;
-      room = omega (arith, c.loop-node.invariant.few, c.loop-node.invariant.groups_are.nodes, c.loop-node.groups.ok.0, c.loop-node.groups.ok.1,
-          c.loop-node.groups.small);
+      room = omega (
+        arith,
+        c.loop-node.invariant.few,
+        c.loop-node.invariant.groups_are.nodes,
+        c.loop-node.groups.ok.0,
+        c.loop-node.groups.ok.1,
+        c.loop-node.groups.small,
+      );
     }
 
 pub number-requires : goal.number-requires

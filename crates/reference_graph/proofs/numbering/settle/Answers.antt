@@ -1,4 +1,4 @@
-use Rattle.std.proofs.Common.{◌≡◌, ◌+◌, ◌*◌, ◌/◌, ◌%◌, ◌<◌, length, refl, arith}
+use Rattle.std.proofs.Common.{◌≡◌, ◌+◌, ◌*◌, ◌/◌, length, refl, arith}
 use Rattle.std.proofs.lemmas.Option.{slice_get_read}
 use Rattle.reference_graph.proofs.Settling.{settled, settled_already}
 use Rattle.reference_graph.proofs.numbering.settle.Goals as goal
@@ -18,9 +18,12 @@ split-requires-clause-root c =
 
 pub split-requires-clause-apart : goal.split-requires-clause-apart
 split-requires-clause-apart c e =
-    omega (arith, (c.requires.groups.small c.args.node c.index-group.result.now
-    (slice_get_read c.args.groups.now.items (length c.args.groups.now.items) c.args.node c.index-group.result.now refl (omega (arith, c.requires.groups.nodes))
-    c.index-group.ensures)).1)
+    omega (
+      arith,
+      (c.requires.groups.small c.args.node c.index-group.result.now
+          (slice_get_read c.args.groups.now.items (length c.args.groups.now.items) c.args.node c.index-group.result.now refl (omega (arith, c.requires.groups.nodes))
+          c.index-group.ensures)).1,
+    )
 
 pub returns : goal.returns
 returns c =

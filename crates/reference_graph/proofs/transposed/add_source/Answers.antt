@@ -1,6 +1,4 @@
-use Rattle.std.proofs.Common.{◌≡◌, ◌<◌, ◌≤◌, ◌∙◌, List, length, get_or, arith, subst, sym}
-use Rattle.reference_graph.specs.Graph.{Rows}
-use Rattle.reference_graph.specs.steps.Sources.{HaveSource}
+use Rattle.std.proofs.Common.{arith}
 use Rattle.reference_graph.proofs.Turning.{source_none, source_next_stays, source_next_added}
 use Rattle.reference_graph.proofs.transposed.add_source.Goals.{then-target-len+in_ok-push_at, else-target-len}
 use Rattle.reference_graph.proofs.transposed.add_source.Goals as goal

@@ -1,4 +1,4 @@
-use Rattle.std.proofs.Common.{◌≡◌, ◌<◌, ◌∙◌, ℕ, List, [], length, replicate, arith, subst, sym, ap}
+use Rattle.std.proofs.Common.{◌∙◌, ℕ, List, [], replicate, arith, subst, sym, ap}
 use Rattle.reference_graph.specs.Graph.{Rows, IsTransposed}
 use Rattle.reference_graph.specs.steps.Sources.{HaveSource}
 use Rattle.reference_graph.proofs.Turning.{sources_none, sources_more, sources_all}

@@ -1,4 +1,4 @@
-use Rattle.std.proofs.Common.{◌≡◌, ◌<◌, ◌≤◌, ◌∙◌, Bool, Some, ap, sym, subst, length, get_or, arith, List, ℕ, ◌++◌, ◌∷◌, []}
+use Rattle.std.proofs.Common.{◌≡◌, ◌<◌, ◌≤◌, ◌∙◌, Bool, Some, ap, sym, subst, get_or, arith, List, ℕ, ◌++◌, ◌∷◌, []}
 use Rattle.std.specs.Prelude.{slice_get}
 use Rattle.std.proofs.lemmas.List.Elements.{Contains-push}
 use Rattle.std.proofs.lemmas.Option.{slice_get_within}
@@ -11,9 +11,12 @@ use Rattle.reference_graph.proofs.depth_first.Search.step.Goals as goal
 
 pub targets-row-requires : goal.targets-row-requires
 targets-row-requires c =
-    omega (arith, c.requires.search.nodes,
-    slice_get_within c.args.self.now.marks.items c.args.frame.node Open
-    (c.requires.search.listed_open c.args.frame.node (Contains-push (way_of c.args.self.now.stack.items) c.args.frame.node)))
+    omega (
+      arith,
+      c.requires.search.nodes,
+      slice_get_within c.args.self.now.marks.items c.args.frame.node Open
+          (c.requires.search.listed_open c.args.frame.node (Contains-push (way_of c.args.self.now.stack.items) c.args.frame.node)),
+    )
 
 pub enter-requires : goal.enter-requires
 enter-requires c =
@@ -22,9 +25,12 @@ enter-requires c =
 
 pub leave-requires : goal.leave-requires
 leave-requires c =
-    omega (arith, c.args.self.now.marks.ok.0,
-    slice_get_within c.args.self.now.marks.items c.args.frame.node Open
-    (c.requires.search.listed_open c.args.frame.node (Contains-push (way_of c.args.self.now.stack.items) c.args.frame.node)))
+    omega (
+      arith,
+      c.args.self.now.marks.ok.0,
+      slice_get_within c.args.self.now.marks.items c.args.frame.node Open
+          (c.requires.search.listed_open c.args.frame.node (Contains-push (way_of c.args.self.now.stack.items) c.args.frame.node)),
+    )
 
 pub returns-in_ok-enter : goal.returns-in_ok-enter
 returns-in_ok-enter c =

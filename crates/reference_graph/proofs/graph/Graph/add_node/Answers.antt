@@ -1,4 +1,4 @@
-use Rattle.std.proofs.Common.{◌≡◌, ◌≤◌, ◌∙◌, ap, length, arith, ◌++◌, ◌∷◌, [], List, ℕ, length-append}
+use Rattle.std.proofs.Common.{◌≡◌, ◌∙◌, ap, length, arith, ◌++◌, ◌∷◌, [], List, ℕ, length-append}
 use Rattle.reference_graph.proofs.Storing.{node_added, starts_added}
 use Rattle.reference_graph.proofs.graph.Graph.add_node.Goals as goal
 

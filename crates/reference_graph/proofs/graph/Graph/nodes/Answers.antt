@@ -1,4 +1,4 @@
-use Rattle.std.proofs.Common.{◌∙◌, ap, sym, length, arith}
+use Rattle.std.proofs.Common.{ap, length, arith}
 use Rattle.reference_graph.specs.Graph.{Rows}
 use Rattle.reference_graph.proofs.Storing.{length_rows}
 use Rattle.reference_graph.proofs.graph.Graph.nodes.Goals as goal

@@ -1,4 +1,4 @@
-use Rattle.std.proofs.Common.{◌≡◌, ◌∙◌, ap, sym, length, arith, ◌++◌, ◌∷◌, [], List, ℕ, append-nil}
+use Rattle.std.proofs.Common.{◌≡◌, ◌∙◌, ap, sym, length, arith, ◌++◌, ◌∷◌, [], ℕ, append-nil}
 use Rattle.reference_graph.proofs.Storing.{node_added, starts_added}
 use Rattle.reference_graph.proofs.graph.Graph.start_node.Goals as goal
 

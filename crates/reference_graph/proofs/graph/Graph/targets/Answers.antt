@@ -1,5 +1,5 @@
-use Rattle.std.proofs.Common.{◌≡◌, ◌<◌, ◌≤◌, ◌∙◌, ap, sym, subst, length, slice_range, arith, List, ℕ}
-use Rattle.reference_graph.proofs.Storing.{IsRow, row_of, node_stored}
+use Rattle.std.proofs.Common.{◌<◌, ◌≤◌, ◌∙◌, ap, sym, subst, length, slice_range, arith, List, ℕ}
+use Rattle.reference_graph.proofs.Storing.{row_of, node_stored}
 use Rattle.reference_graph.proofs.graph.Graph.targets.Goals as goal
 
 pub start_behind-end-requires : goal.start_behind-end-requires
@@ -9,8 +9,11 @@ start_behind-end-requires c =
 
 pub index-requires : goal.index-requires
 index-requires c =
-    omega (arith, node_stored c.self.inside.starts.items c.self.inside.targets.items c.args.self.now c.args.node c.self.view_is c.requires,
-    c.self.inside.starts.ok.0)
+    omega (
+      arith,
+      node_stored c.self.inside.starts.items c.self.inside.targets.items c.args.self.now c.args.node c.self.view_is c.requires,
+      c.self.inside.starts.ok.0,
+    )
 
 pub part-requires-clause-order : goal.part-requires-clause-order
 part-requires-clause-order c =
