@@ -58,9 +58,9 @@ impl Graph {
         Ok(())
     }
 
-    /// Adds a target to the last node. Where no node has that number in the end, it makes no edge.
+    /// Adds a target to the last node. Where no node has that number in the end, it makes no edge. Without a node
+    /// it changes nothing.
     pub fn edge(&mut self, target: usize) -> Result<(), AllocError>
-        requires { 0 < length self.old }
         ensures ok { OnOk result (self.new ≡ with_target self.old target) }
         ensures err { OnErr result (self.new ≡ self.old) }
     {

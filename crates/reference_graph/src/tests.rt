@@ -1,5 +1,7 @@
 // Each public call once, with ample memory.
-use crate::{Graph, components, order};
+ghost use Rattle.std.specs.Prelude.{◌≡◌, length};
+
+use crate::{ComponentNumbers, Graph, components, order};
 use std::alloc::AllocError;
 use std::test::Fail;
 use tree_items::Items;
@@ -39,13 +41,26 @@ fn graphs(rt: HostRuntime) -> Result<(), Fail> {
     Ok(())
 }
 
+/// The number of a node's component, for comparison; none where it is no node.
+fn number(graph: &Graph, found: &ComponentNumbers, node: usize) -> Option<usize>
+    requires { length found.now ≡ length graph.now }
+{
+    if node < graph.nodes() {
+        Some(found.number(node))
+    } else {
+        None
+    }
+}
+
 #[test]
 fn numbers(rt: HostRuntime) -> Result<(), Fail> {
-    let found = components(rt.alloc(), &small(&rt)?)?;
-    assert_eq!(rt; found.number(1), found.number(2));
-    assert!(rt; found.number(0) != found.number(1));
-    assert!(rt; found.number(3) != found.number(1));
-    assert!(rt; found.number(4) != found.number(0));
+    let graph = small(&rt)?;
+    let found = components(rt.alloc(), &graph)?;
+    assert!(rt; number(&graph, &found, 1) == number(&graph, &found, 2));
+    assert!(rt; number(&graph, &found, 0) != number(&graph, &found, 1));
+    assert!(rt; number(&graph, &found, 3) != number(&graph, &found, 1));
+    assert!(rt; number(&graph, &found, 4) != number(&graph, &found, 0));
+    assert!(rt; number(&graph, &found, 4).is_some());
     Ok(())
 }
 
