@@ -1,0 +1,2 @@
+//! What the standard names.
+#![tactic(auto)]
