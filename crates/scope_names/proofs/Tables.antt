@@ -113,16 +113,16 @@ from-start : {W : Type 0} (rows : List (NameRow W)) (scope : ℕ) (name : List �
     → (other : NameRow W) (k : ℕ) → k < length rows → get_or rows k other ≡ other → Declares scope name other → i ≤ k
 from-start rows scope name i p other k l e h =
     let low : k < i → ⊥ = λ b.
-        let less : is_lt (against scope name (get_or rows k other)) ≡ true = p.0 k other (omega arith) b in
-        true≢false (sym less ∙ ap is_lt (ap (against scope name) e ∙ tied scope name other h)) in
+    let less : is_lt (against scope name (get_or rows k other)) ≡ true = p.0 k other (omega arith) b in
+    true≢false (sym less ∙ ap is_lt (ap (against scope name) e ∙ tied scope name other h)) in
     grind arith
 
 below-end : {W : Type 0} (rows : List (NameRow W)) (scope : ℕ) (name : List ℕ) (j : ℕ) → IsEnd scope name rows j
     → (other : NameRow W) (k : ℕ) → k < length rows → get_or rows k other ≡ other → Declares scope name other → k < j
 below-end rows scope name j p other k l e h =
     let high : j ≤ k → ⊥ = λ b.
-        let more : is_le (against scope name (get_or rows k other)) ≡ false = p.1 k other b l in
-        true≢false (sym (ap is_le (ap (against scope name) e ∙ tied scope name other h)) ∙ more) in
+    let more : is_le (against scope name (get_or rows k other)) ≡ false = p.1 k other b l in
+    true≢false (sym (ap is_le (ap (against scope name) e ∙ tied scope name other h)) ∙ more) in
     grind arith
 
 outside : (at n e : ℕ) → (at ≡ 0) ⊎ (n ≤ at) → e < at → at < n → ⊥
@@ -149,7 +149,7 @@ module _ {W : Type 0} (rows : List (NameRow W)) (up : IsSorted row_cmp rows) whe
   in-order scope name i j d h l a b =
       let far : is_lt (row_cmp (get_or rows j d) (get_or rows i d)) ≡ false = sorted_far (λ a b. is_lt (row_cmp a b)) (ranks_by rows_total (λ r. r)) rows up i j d h l in
       let same : key_cmp (key (get_or rows j d)) (key (get_or rows i d)) ≡ Equal =
-          ap₂ key_cmp (key-is scope name (get_or rows j d) b) (key-is scope name (get_or rows i d) a) ∙ tied_itself keys_total (scope, raised_all name) in
+      ap₂ key_cmp (key-is scope name (get_or rows j d) b) (key-is scope name (get_or rows i d) a) ∙ tied_itself keys_total (scope, raised_all name) in
       second_part _ _ same far
 
   -- the same, where the rows are named by what they are
@@ -251,7 +251,7 @@ module _ {W : Type 0} (rows : List (NameRow W)) (up : IsSorted row_cmp rows) whe
           let whole : length (drop i rows) ≡ length rows - i = length-drop i rows in
           let shifted : i + (k + 1) ≡ (i + k) + 1 = omega arith in
           let ordered : is_lt (site_cmp (get_or rows (i + (k + 1)) d).site (get_or rows (i + k) d).site) ≡ false =
-              in-order scope name (i + k) (i + (k + 1)) d (omega arith) (omega arith) (inside k d (omega arith)) (inside (k + 1) d low) in
+          in-order scope name (i + k) (i + (k + 1)) d (omega arith) (omega arith) (inside k d (omega arith)) (inside (k + 1) d low) in
           ap₂ (λ (u v : NameRow W). is_lt (site_cmp u.site v.site)) (at-run (k + 1) d low) (at-run k d (omega arith)) ∙ ordered;
     }
 
@@ -272,7 +272,7 @@ module _ {W : Type 0} (rows : List (NameRow W)) (up : IsSorted row_cmp rows) whe
       let is : x ≡ r.row = get_or_default rows at d r.row l ∙ r.here.1 in
       let other_is : get_or rows r.earlier d ≡ r.other = get_or_default rows r.earlier d r.other r.there.0 ∙ r.there.1 in
       let other_same : Declares x.scope x.name.now (get_or rows r.earlier d) =
-          subst₂ (λ (u v : NameRow W). Declares u.scope u.name.now v) (sym is) (sym other_is) r.same in
+      subst₂ (λ (u v : NameRow W). Declares u.scope u.name.now v) (sym is) (sym other_is) r.same in
       let earlier : r.earlier ≤ at - 1 = omega (arith, r.is_earlier) in
       let low = rising x.scope x.name.now r.earlier (at - 1) d earlier (omega arith) in
       let high = rising x.scope x.name.now (at - 1) at d (omega arith) l in

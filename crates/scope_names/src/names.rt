@@ -95,7 +95,11 @@ impl<'t, W: Copy> Names<'t, W> {
     }
 }
 
-fn find_first<'s, 't, W: Copy>(rows: &'s [NameRow<'t, W>], scope: u32, name: &[u8]) -> Option<&'s NameRow<'t, W>>
+fn find_first<'s, 't, W: Copy>(
+    rows: &'s [NameRow<'t, W>],
+    scope: u32,
+    name: &[u8],
+) -> Option<&'s NameRow<'t, W>>
     requires { IsSorted row_cmp rows.now }
     ensures { MatchOption result (IsNowhere rows.now scope name.now) (λ row. IsFirst rows.now scope name.now row.now) }
 {
@@ -111,7 +115,11 @@ fn find_first<'s, 't, W: Copy>(rows: &'s [NameRow<'t, W>], scope: u32, name: &[u
     }
 }
 
-fn find_last<'s, 't, W: Copy>(rows: &'s [NameRow<'t, W>], scope: u32, name: &[u8]) -> Option<&'s NameRow<'t, W>>
+fn find_last<'s, 't, W: Copy>(
+    rows: &'s [NameRow<'t, W>],
+    scope: u32,
+    name: &[u8],
+) -> Option<&'s NameRow<'t, W>>
     requires { IsSorted row_cmp rows.now }
     ensures { MatchOption result (IsNowhere rows.now scope name.now) (λ row. IsLast rows.now scope name.now row.now) }
 {
@@ -127,7 +135,11 @@ fn find_last<'s, 't, W: Copy>(rows: &'s [NameRow<'t, W>], scope: u32, name: &[u8
     }
 }
 
-fn find_all<'s, 't, W: Copy>(rows: &'s [NameRow<'t, W>], scope: u32, name: &[u8]) -> &'s [NameRow<'t, W>]
+fn find_all<'s, 't, W: Copy>(
+    rows: &'s [NameRow<'t, W>],
+    scope: u32,
+    name: &[u8],
+) -> &'s [NameRow<'t, W>]
     requires { IsSorted row_cmp rows.now }
     ensures { IsRun rows.now scope name.now result.now }
 {

@@ -1,5 +1,5 @@
 -- Names cut at `_TO_`: a name that is joined of two types' names is cut into these two.
-use Rattle.std.proofs.Common.{◌≡◌, ℕ, zero, suc, ◌+◌, ◌-◌, ◌<◌, ◌≤◌, Bool, true, false, not, ◌&&◌, ◌⊎◌, inl, inr, List, [], ◌∷◌, ◌++◌, length, take, drop, map, IsTrue, arith, ap, ◌∙◌, sym, subst, refl, true≢false, take_all, length-drop, length-take-le, take-append-drop, drop_of_length-le}
+use Rattle.std.proofs.Common.{◌≡◌, ℕ, zero, suc, ◌-◌, ◌<◌, ◌≤◌, Bool, true, false, not, ◌&&◌, ◌⊎◌, inl, inr, List, [], ◌∷◌, ◌++◌, length, take, drop, arith, ap, ◌∙◌, sym, subst, refl, true≢false, take_all, length-drop, length-take-le, take-append-drop, drop_of_length-le}
 use Rattle.std.specs.Prelude.{codes}
 use Rattle.std.specs.Str.{bytes_eq}
 use Rattle.std.proofs.lemmas.Slice.Eq.{bytes_eq-Decides}
@@ -50,9 +50,9 @@ cut-is s before behind from to c h e =
     let same : length before ≡ length from = grind arith in
     let whole : before ++ (codes "_TO_" ++ behind) ≡ from ++ (codes "_TO_" ++ to) = sym c.parts ∙ sym e in
     let front : before ≡ from =
-        sym (take-append_seam before (codes "_TO_" ++ behind)) ∙ ap (take (length before)) whole ∙ ap (λ n. take n (joined from to)) same ∙ take-append_seam from (codes "_TO_" ++ to) in
+    sym (take-append_seam before (codes "_TO_" ++ behind)) ∙ ap (take (length before)) whole ∙ ap (λ n. take n (joined from to)) same ∙ take-append_seam from (codes "_TO_" ++ to) in
     let back : codes "_TO_" ++ behind ≡ codes "_TO_" ++ to =
-        sym (drop-append_seam before (codes "_TO_" ++ behind)) ∙ ap (drop (length before)) whole ∙ ap (λ n. drop n (joined from to)) same ∙ drop-append_seam from (codes "_TO_" ++ to) in
+    sym (drop-append_seam before (codes "_TO_" ++ behind)) ∙ ap (drop (length before)) whole ∙ ap (λ n. drop n (joined from to)) same ∙ drop-append_seam from (codes "_TO_" ++ to) in
     (front, ap (drop 4) back)
 
 -- ---- the rest of a name with letters raised
@@ -84,4 +84,4 @@ pub nowhere : (name : List ℕ) (at : ℕ) → ((k : ℕ) → k < at → ¬ (Joi
 nowhere name at h l k = elim (below_or_not k at) [ inl b ↦ h k b | inr b ↦ behind-all name k (omega arith) ]
 
 pub cut-of : (from to : List ℕ) → clear from ≡ true → IsCut (joined from to) from to
-cut-of from to h = record { parts = refl; first = front-clear from to h; }
+cut-of from to h = record { parts = refl; first = front-clear from to h }

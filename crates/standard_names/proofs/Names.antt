@@ -1,5 +1,5 @@
 -- The tables of this crate say what the definitions say.
-use Rattle.std.proofs.Common.{◌≡◌, ◌↔◌, ℕ, ◌+◌, ◌<◌, ◌≤◌, ◌⊎◌, inl, inr, true, false, List, [], ◌∷◌, ◌++◌, length, length-append, map, get_or, Some, None, arith, ap, ap₂, subst, subst₂, ◌∙◌, sym, refl, true≢false}
+use Rattle.std.proofs.Common.{◌≡◌, ◌↔◌, ℕ, ◌+◌, ◌<◌, ◌≤◌, ◌⊎◌, inl, inr, true, List, [], ◌∷◌, ◌++◌, length, length-append, map, get_or, Some, None, arith, ap, ap₂, subst, subst₂, ◌∙◌, sym, refl}
 use Rattle.std.specs.Prelude.{codes}
 use Rattle.std.proofs.lemmas.List.{length-map, get_or-map}
 use Rattle.std.specs.Prelude.{Option}
@@ -259,13 +259,15 @@ type-clear name h = elim h [
 ]
 
 pub conversion-made : (s x y : List ℕ) → IsCut s x y → IsTypeName x → IsTypeName y → Contains left_out_types x ⊎ Contains left_out_types y → IsLeftOutConversion s
-conversion-made s x y c a b l = record { from = x; to = y; name_is = sym c.parts; from_type = a; to_type = b; left_out = l; }
+conversion-made s x y c a b l = record { from = x; to = y; name_is = sym c.parts; from_type = a; to_type = b; left_out = l }
 
 pub conversion-parts : (s x y : List ℕ) → IsCut s x y → IsLeftOutConversion s → IsTypeName x × IsTypeName y × (Contains left_out_types x ⊎ Contains left_out_types y)
 conversion-parts s x y c r =
-    let parts = cut-is s x y r.from r.to c (type-clear r.from r.from_type) r.name_is in
-    (subst IsTypeName (sym parts.0) r.from_type, subst IsTypeName (sym parts.1) r.to_type,
-     subst₂ (λ (a b : List ℕ). Contains left_out_types a ⊎ Contains left_out_types b) (sym parts.0) (sym parts.1) r.left_out)
+    let parts = cut-is s x y r.from r.to c (type-clear r.from r.from_type) r.name_is in (
+      subst IsTypeName (sym parts.0) r.from_type,
+      subst IsTypeName (sym parts.1) r.to_type,
+      subst₂ (λ (a b : List ℕ). Contains left_out_types a ⊎ Contains left_out_types b) (sym parts.0) (sym parts.1) r.left_out,
+    )
 
 pub no-conversion : (s : List ℕ) → HasNoJoint s → ¬ (IsLeftOutConversion s)
 no-conversion s none r = unjoined s r.from r.to none r.name_is

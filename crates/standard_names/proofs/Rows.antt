@@ -1,5 +1,5 @@
 -- What a search in a table of words says of what the words name.
-use Rattle.std.proofs.Common.{◌≡◌, ℕ, zero, suc, ◌+◌, ◌<◌, ◌≤◌, Bool, true, false, cond, ◌||◌, ◌↔◌, ◌⊎◌, inl, inr, List, [], ◌∷◌, length, get_or, map, IsTrue, MatchOption, Some, None, arith, ap, ◌∙◌, sym, subst, refl, true≢false}
+use Rattle.std.proofs.Common.{◌≡◌, ℕ, zero, suc, ◌+◌, ◌<◌, Bool, true, false, cond, ◌||◌, ◌↔◌, ◌⊎◌, inl, inr, List, [], ◌∷◌, length, get_or, map, IsTrue, MatchOption, Some, None, arith, ap, ◌∙◌, sym, subst, refl, true≢false}
 use Rattle.std.specs.Prelude.{Option}
 use Rattle.std.specs.List.{Contains, AllByRecursion, slice_get}
 use Rattle.std.specs.Option.{is_some}
@@ -41,9 +41,10 @@ member rows (Some n) s h =
 pub member_named : (rows : List Word) (names : List (List ℕ)) → texts rows ≡ names → (r : Option ℕ) (s : List ℕ) → MatchOption r (HasNoRow rows s) (HasRow rows s)
     → (b : Bool) → b ≡ is_some r → IsTrue b ↔ Contains names s
 member_named rows names e r s h b is =
-    let all = member rows r s h in
-    (λ t. subst (λ (ns : List (List ℕ)). Contains ns s) e (all.0 (sym is ∙ t)),
-     λ k. is ∙ all.1 (subst (λ (ns : List (List ℕ)). Contains ns s) (sym e) k))
+    let all = member rows r s h in (
+      λ t. subst (λ (ns : List (List ℕ)). Contains ns s) e (all.0 (sym is ∙ t)),
+      λ k. is ∙ all.1 (subst (λ (ns : List (List ℕ)). Contains ns s) (sym e) k),
+    )
 
 -- ---- tables of values
 
@@ -76,9 +77,10 @@ module _ {V : Type 0} (text : V → List ℕ) (Is : V → Type 0) where
   pub exact : ((a b : V) → Is a → Is b → text a ≡ text b → a ≡ b) → (r : Option V) (s : List ℕ) → IsAnswer r s
       → (v : V) → (r ≡ Some v) ↔ (Is v × (text v ≡ s))
   exact inj None s h v = (λ e. cc, λ k. absurd (h v k.0 k.1))
-  exact inj (Some w) s h v =
-      (λ e. let e' : w ≡ v = cc in subst (λ (u : V). Is u × (text u ≡ s)) e' h,
-       λ k. ap Some (inj w v h.0 k.0 (h.1 ∙ sym k.1)))
+  exact inj (Some w) s h v = (
+    λ e. let e' : w ≡ v = cc in subst (λ (u : V). Is u × (text u ≡ s)) e' h,
+    λ k. ap Some (inj w v h.0 k.0 (h.1 ∙ sym k.1)),
+  )
 
   pub answered : (r : Option V) (s : List ℕ) → ((v : V) → (r ≡ Some v) ↔ (Is v × (text v ≡ s))) → IsAnswer r s
   answered None s h = λ v is e. let wrong : None ≡ Some v = (h v).1 (is, e) in cc
@@ -96,15 +98,15 @@ module _ {V : Type 0} (text : V → List ℕ) (Is : V → Type 0) where
         let as_long : length rows ≡ length values = sym (length-map rows (λ (w : Word). w.text.now)) ∙ ap length names ∙ length-map values text in
         let inside : k < length values = omega (arith, has.there.1) in
         let number : row.number ≡ 0 + k =
-            ap (λ (w : Word). w.number) (sym has.there.2) ∙ sym (get_or-map (λ (w : Word). w.number) rows k row 0 has.there.1)
-            ∙ ap (λ ns. get_or ns k 0) numbers ∙ get_or-range_with_len 0 (length values) k 0 inside in
+        ap (λ (w : Word). w.number) (sym has.there.2) ∙ sym (get_or-map (λ (w : Word). w.number) rows k row 0 has.there.1)
+        ∙ ap (λ ns. get_or ns k 0) numbers ∙ get_or-range_with_len 0 (length values) k 0 inside in
         let at : k ≡ n = omega (arith, has.number_is, number) in
         let within : n < length values = omega arith in
         let v = get_or values n d in
         let spelled : text v ≡ s =
-            sym (get_or-map text values n d s within) ∙ ap (λ ns. get_or ns n s) (sym names)
-            ∙ ap (λ i. get_or (texts rows) i s) (sym at) ∙ get_or-map (λ (w : Word). w.text.now) rows k row s has.there.1
-            ∙ ap (λ (w : Word). w.text.now) has.there.2 ∙ has.text_is in
+        sym (get_or-map text values n d s within) ∙ ap (λ ns. get_or ns n s) (sym names)
+        ∙ ap (λ i. get_or (texts rows) i s) (sym at) ∙ get_or-map (λ (w : Word). w.text.now) rows k row s has.there.1
+        ∙ ap (λ (w : Word). w.text.now) has.there.2 ∙ has.text_is in
         let named : slice_get values n ≡ Some v = slice_get-get_or values n d within in
         let is : Is v = All-from_recursion Is values all n d within in
         subst (λ (o : Option V). IsAnswer o s) (sym (e ∙ named)) (is, spelled)

@@ -106,13 +106,7 @@ fn different(from: Option<Elem>, to: Option<Elem>) -> Option<(Elem, Elem)>
 {
     match from {
         Some(from) => match to {
-            Some(to) => {
-                if from == to {
-                    None
-                } else {
-                    Some((from, to))
-                }
-            },
+            Some(to) => { if from == to { None } else { Some((from, to)) } },
             None => None,
         },
         None => None,

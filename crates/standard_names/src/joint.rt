@@ -23,8 +23,7 @@ fn behind_joint(text: &[u8]) -> Option<&[u8]>
 {
     match text {
         [a, b, c, d, rest @ ..]
-            if raise(*a) == b'_' && raise(*b) == b'T' && raise(*c) == b'O' && raise(*d) == b'_' =>
-        {
+            if raise(*a) == b'_' && raise(*b) == b'T' && raise(*c) == b'O' && raise(*d) == b'_' => {
             Some(rest)
         },
         _ => None,

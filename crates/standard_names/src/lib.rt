@@ -7,5 +7,10 @@ mod joint;
 mod types;
 
 pub use block::{BlockPart, PartKind, StandardBlock, block_part, block_parts, standard_block};
-pub use function::{StandardFunction, is_left_out_function, is_left_out_type, is_standard, standard_function};
+pub use function::{
+    StandardFunction, is_left_out_function, is_left_out_type, is_standard, standard_function,
+};
 pub use types::elem_named;
+
+#[cfg(test)]
+mod tests;

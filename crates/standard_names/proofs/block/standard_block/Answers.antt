@@ -1,4 +1,4 @@
-use Rattle.std.proofs.Common.{◌≡◌, ◌↔◌, Some, None, rules}
+use Rattle.std.proofs.Common.{◌≡◌, None, rules}
 use Rattle.std.specs.List.{slice_get}
 use Rattle.standard_names.specs.declared.block.StandardBlock.TheVariants.{Sr}
 use Rattle.standard_names.specs.Blocks.{block_name}
@@ -13,7 +13,7 @@ returns-in-Some c t =
     let s = raised_all c.args.name.now in
     let got : c.copied.result ≡ slice_get BLOCKS c.in-Some.number = search rules in
     let is = found block_name AnyBlock BLOCKS c.block_names.result c.block_names.ensures.texts Sr (all_any_block BLOCKS) c.block_names.ensures.numbers s c.in-Some.number c.in-Some.ensures
-        c.copied.result got in
+    c.copied.result got in
     let all = exact block_name AnyBlock blocks-alike c.copied.result s is t in
     (λ e. (all.0 e).1, λ e. all.1 (tt, e))
 

@@ -1,4 +1,3 @@
-use Rattle.std.proofs.Common.{inl}
 use Rattle.standard_names.proofs.Rows.{second_decides, first_holds, not_so}
 use Rattle.standard_names.proofs.function.is_left_out_type.Goals as goal
 

@@ -1,7 +1,7 @@
 use Rattle.std.proofs.Common.{◌≡◌, sym, ◌∙◌}
 use Rattle.iec_tables.specs.Words.{raised_all}
-use Rattle.standard_names.specs.Functions.{function_name, IsFunction, IsFunctionName}
-use Rattle.standard_names.specs.Blocks.{block_name, IsBlockName}
+use Rattle.standard_names.specs.Functions.{function_name, IsFunction}
+use Rattle.standard_names.specs.Blocks.{block_name}
 use Rattle.standard_names.proofs.Rows.{there, not-there, first_holds, second_decides, some_exactly}
 use Rattle.standard_names.proofs.function.is_standard.Goals as goal
 

@@ -1,4 +1,4 @@
-use Rattle.std.proofs.Common.{Some, None}
+use Rattle.std.proofs.Common.{Some}
 use Rattle.iec_tables.specs.Words.{raised_all}
 use Rattle.standard_names.specs.declared.function.StandardFunction.TheVariants.{Convert}
 use Rattle.standard_names.specs.Functions.{function_name, IsFunction}

@@ -1,4 +1,4 @@
-use Rattle.std.proofs.Common.{◌≡◌, ◌<◌, ◌≤◌, length, take, arith, ap, ◌∙◌, below_more}
+use Rattle.std.proofs.Common.{◌≡◌, length, take, arith, ap, ◌∙◌, below_more}
 use Rattle.iec_tables.specs.Words.{raised_all}
 use Rattle.standard_names.proofs.Joining.{cut-parts, front-long, raised-rest, nowhere}
 use Rattle.standard_names.proofs.joint.cut.Goals as goal

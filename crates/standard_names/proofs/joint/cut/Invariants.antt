@@ -1,4 +1,4 @@
-use Rattle.std.proofs.Common.{ℕ, ◌<◌, drop}
+use Rattle.std.proofs.Common.{ℕ, ◌<◌}
 use Rattle.iec_tables.specs.Words.{raised_all}
 use Rattle.standard_names.specs.Joints.{JoinsAt}
 use Rattle.standard_names.proofs.joint.cut.Given as goal

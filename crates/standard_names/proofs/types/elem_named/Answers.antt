@@ -1,4 +1,4 @@
-use Rattle.std.proofs.Common.{◌≡◌, ◌↔◌, Some, None, rules}
+use Rattle.std.proofs.Common.{◌≡◌, None, rules}
 use Rattle.std.specs.List.{slice_get}
 use Rattle.iec_tables.specs.declared.elem.Elem.TheVariants.{Bool}
 use Rattle.iec_tables.specs.Types.{name_of}
@@ -13,7 +13,7 @@ returns-in-Some c t =
     let s = raised_all c.args.name.now in
     let got : c.copied.result ≡ slice_get ELEMS c.in-Some.number = search rules in
     let is = found name_of AnyElem ELEMS c.type_names.result c.type_names.ensures.texts Bool (all_any ELEMS) c.type_names.ensures.numbers s c.in-Some.number c.in-Some.ensures
-        c.copied.result got in
+    c.copied.result got in
     let all = exact name_of AnyElem elems-alike c.copied.result s is t in
     (λ e. (all.0 e).1, λ e. all.1 (tt, e))
 

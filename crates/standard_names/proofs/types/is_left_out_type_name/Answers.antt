@@ -1,6 +1,3 @@
-use Rattle.std.proofs.Common.{◌≡◌, ◌↔◌, ℕ, List, IsTrue, subst}
-use Rattle.std.specs.List.{Contains}
-use Rattle.std.specs.Option.{is_some}
 use Rattle.iec_tables.specs.Words.{raised_all}
 use Rattle.standard_names.specs.Types.{left_out_types}
 use Rattle.standard_names.proofs.Rows.{member_named}
