@@ -116,7 +116,8 @@ pub fn block_parts(block: StandardBlock) -> &'static [BlockPart]
 
 /// The input or output of this name, or None where the block has none.
 pub fn block_part(block: StandardBlock, name: &[u8]) -> Option<BlockPart>
-    ensures { MatchOption result (HasNoPart (parts_of block) (raised_all name.now)) (λ part. (part.name.now ≡ raised_all name.now) × Contains (parts_of block) (part_of part)) }
+    ensures { MatchOption result (HasNoPart (parts_of block) (raised_all name.now))
+        (λ part. (part.name.now ≡ raised_all name.now) × Contains (parts_of block) (part_of part)) }
 {
     for part in block_parts(block) {
         if is_named(part.name, name) {

@@ -3,7 +3,9 @@ ghost use Rattle.std.specs.Prelude.{◌≡◌, ◌↔◌, ◌⊎◌, IsTrue, Som
 ghost use Rattle.iec_tables.specs.declared.elem.Elem.{Elem};
 ghost use Rattle.iec_tables.specs.Words.{raised_all, first_numbers};
 ghost use Rattle.standard_names.specs.declared.function.StandardFunction.{StandardFunction};
-ghost use Rattle.standard_names.specs.Functions.{function_name, conversion_name, IsFunction, IsPlain, IsFunctionName, IsLeftOutFunction, IsLeftOutConversion, IsLeftOutType, left_out_functions};
+ghost use Rattle.standard_names.specs.Functions.{function_name, conversion_name, left_out_functions};
+ghost use Rattle.standard_names.specs.Functions.{IsFunction, IsPlain, IsFunctionName};
+ghost use Rattle.standard_names.specs.Functions.{IsLeftOutFunction, IsLeftOutConversion, IsLeftOutType};
 ghost use Rattle.standard_names.specs.Blocks.{IsBlockName};
 
 use crate::block::{is_named, standard_block};
@@ -82,7 +84,9 @@ pub fn standard_function(name: &[u8]) -> Option<StandardFunction>
 
 // A function that isn't a conversion.
 fn plain_function(name: &[u8]) -> Option<StandardFunction>
-    ensures { MatchOption result ((f : StandardFunction) → IsPlain f → ¬ (function_name f ≡ raised_all name.now)) (λ f. IsPlain f × (function_name f ≡ raised_all name.now)) }
+    ensures { MatchOption result
+        ((f : StandardFunction) → IsPlain f → ¬ (function_name f ≡ raised_all name.now))
+        (λ f. IsPlain f × (function_name f ≡ raised_all name.now)) }
 {
     match plain_names().find(name) {
         Some(number) => FUNCTIONS.get(number as usize).copied(),
@@ -92,7 +96,9 @@ fn plain_function(name: &[u8]) -> Option<StandardFunction>
 
 // The two different types between which the function of this name converts.
 fn conversion(name: &[u8]) -> Option<(Elem, Elem)>
-    ensures { MatchOption result ((a b : Elem) → ¬ (a ≡ b) → ¬ (conversion_name a b ≡ raised_all name.now)) (λ pair. ¬ (pair.0 ≡ pair.1) × (conversion_name pair.0 pair.1 ≡ raised_all name.now)) }
+    ensures { MatchOption result
+        ((a b : Elem) → ¬ (a ≡ b) → ¬ (conversion_name a b ≡ raised_all name.now))
+        (λ pair. ¬ (pair.0 ≡ pair.1) × (conversion_name pair.0 pair.1 ≡ raised_all name.now)) }
 {
     match cut(name) {
         Some((from, to)) => different(elem_named(from), elem_named(to)),
@@ -102,7 +108,8 @@ fn conversion(name: &[u8]) -> Option<(Elem, Elem)>
 
 // Two types, where both are there and differ.
 fn different(from: Option<Elem>, to: Option<Elem>) -> Option<(Elem, Elem)>
-    ensures { MatchOption result ((a b : Elem) → from ≡ Some a → to ≡ Some b → a ≡ b) (λ pair. ¬ (pair.0 ≡ pair.1) × (from ≡ Some pair.0) × (to ≡ Some pair.1)) }
+    ensures { MatchOption result ((a b : Elem) → from ≡ Some a → to ≡ Some b → a ≡ b)
+        (λ pair. ¬ (pair.0 ≡ pair.1) × (from ≡ Some pair.0) × (to ≡ Some pair.1)) }
 {
     match from {
         Some(from) => match to {

@@ -7,7 +7,8 @@ use iec_tables::letters::raise;
 
 // The parts of a name before and behind the first `_TO_` in it, with letters raised.
 pub(crate) fn cut(name: &[u8]) -> Option<(&[u8], &[u8])>
-    ensures { MatchOption result (HasNoJoint (raised_all name.now)) (λ parts. IsCut (raised_all name.now) (raised_all parts.0.now) (raised_all parts.1.now)) }
+    ensures { MatchOption result (HasNoJoint (raised_all name.now))
+        (λ parts. IsCut (raised_all name.now) (raised_all parts.0.now) (raised_all parts.1.now)) }
 {
     for at in 0..name.len() {
         if let Some(rest) = behind_joint(&name[at..]) {
@@ -19,7 +20,8 @@ pub(crate) fn cut(name: &[u8]) -> Option<(&[u8], &[u8])>
 
 // What follows `_TO_` where the text begins with it.
 fn behind_joint(text: &[u8]) -> Option<&[u8]>
-    ensures { MatchOption result (¬ (take 4 (raised_all text.now) ≡ codes "_TO_")) (λ rest. raised_all text.now ≡ codes "_TO_" ++ raised_all rest.now) }
+    ensures { MatchOption result (¬ (take 4 (raised_all text.now) ≡ codes "_TO_"))
+        (λ rest. raised_all text.now ≡ codes "_TO_" ++ raised_all rest.now) }
 {
     match text {
         [a, b, c, d, rest @ ..]
