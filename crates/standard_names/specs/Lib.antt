@@ -1,0 +1,4 @@
+pub mod Types
+pub mod Joints
+pub mod Blocks
+pub mod Functions
