@@ -1,0 +1,4 @@
+pub mod Names
+pub mod Projects
+pub mod Keeping
+pub mod Codes
