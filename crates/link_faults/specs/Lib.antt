@@ -1,0 +1,4 @@
+pub mod Codes
+pub mod First
+pub mod FirstLaws
+pub mod Checked
