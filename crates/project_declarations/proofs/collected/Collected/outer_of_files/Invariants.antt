@@ -1,0 +1,9 @@
+use Rattle.std.proofs.Common.{[], ◌∷◌, take, map, flat_map}
+use Rattle.project_declarations.specs.Declarations as declared
+use Rattle.project_declarations.specs.Rows.{Adds, AddsUnits}
+use Rattle.project_declarations.proofs.collected.Collected.outer_of_files.Given as goal
+
+abbrev pub invariant-loop-place : goal.invariant-loop-place
+invariant-loop-place l =
+    Adds l.fn.self l.self [] (declared.outer_decls_from 0 (take l.place l.files))
+    (declared.outer_names_from 0 (take l.place l.files))
