@@ -47,7 +47,8 @@ impl<'t> Collected<'t> {
         identifier: &'t Identifier,
         what: What,
     ) -> Result<(), AllocError>
-        ensures { OnOk result (spec.Adds self.old self.new [] [] (named file scope identifier.now what ∷ [])) }
+        ensures { OnOk result
+            (spec.Adds self.old self.new [] [] (named file scope identifier.now what ∷ [])) }
     {
         self.names.push(NameRow {
             scope,
@@ -65,7 +66,8 @@ impl<'t> Collected<'t> {
         owner: Owner,
         source: Source<'t>,
     ) -> Result<(), AllocError>
-        ensures { OnOk result (spec.Adds self.old self.new [] (record { file = file; owner = owner; source = spec.bare_source source.entry } ∷ []) []) }
+        ensures { OnOk result (spec.Adds self.old self.new []
+            (spec.declaration file owner source.entry ∷ []) []) }
     {
         self.decls.push(DeclRow {
             file,

@@ -5,5 +5,7 @@ use Rattle.project_declarations.proofs.collected.Collected.all_units.Goals as go
 
 pub loop-unit-preserved : goal.loop-unit-preserved
 loop-unit-preserved c =
-    adds_next_unit c.args.file (take c.loop-unit.unit-index c.args.list.now) (take (c.loop-unit.unit-index + 1) c.args.list.now) c.unit-item.result c.in_ok-number.number
-    (grind (arith, common_steps)) (search rules) c.loop-unit.invariant c.in_ok-unit.ensures
+    let list = c.args.list.now in
+    let k = c.loop-unit.unit-index in
+    adds_next_unit c.args.file (take k list) (take (k + 1) list) c.unit-item.result
+    c.in_ok-number.number (grind (arith, common_steps)) (search rules) c.loop-unit.invariant c.in_ok-unit.ensures

@@ -7,7 +7,10 @@ use Rattle.project_declarations.proofs.collected.Collected.outer_of_files.Goals 
 
 pub loop-place-preserved : goal.loop-place-preserved
 loop-place-preserved c =
-    adds_file (take c.loop-place.place c.args.files.now) (take (c.loop-place.place + 1) c.args.files.now) c.index-files-place.result c.loop-place.place
+    let files = c.args.files.now in
+    let k = c.loop-place.place in
+    let tree = c.index-files-place.result in
+    adds_file (take k files) (take (k + 1) files) tree k
     (grind (arith, common_steps)) (grind (arith, common_steps)) c.loop-place.invariant
-    (subst (λ (k : ℕ). Adds c.loop-place.self c.outer.new.self [] (outer_decls k c.index-files-place.result) (outer_names k c.index-files-place.result))
+    (subst (λ (n : ℕ). Adds c.loop-place.self c.outer.new.self [] (outer_decls n tree) (outer_names n tree))
     c.in_ok-file.ensures c.in_ok-outer.ensures)

@@ -8,9 +8,13 @@ use Rattle.project_declarations.proofs.collected.Collected.units_of_files.Goals 
 
 pub loop-place-preserved : goal.loop-place-preserved
 loop-place-preserved c =
-    adds_next_file (take c.loop-place.place c.args.files.now) (take (c.loop-place.place + 1) c.args.files.now) c.index-files-place.result c.loop-place.place
+    let files = c.args.files.now in
+    let k = c.loop-place.place in
+    let tree = c.index-files-place.result in
+    let old = c.loop-place.self in
+    let new = c.all_units.new.self in
+    adds_next_file (take k files) (take (k + 1) files) tree k
     (grind (arith, common_steps)) (grind (arith, common_steps)) c.loop-place.invariant
-    (subst (λ (k : ℕ). AddsUnits c.loop-place.self c.all_units.new.self (map (placed k) c.index-files-place.result.units))
-    c.in_ok-file.ensures
-    (subst (λ (units : List Unit). AddsUnits c.loop-place.self c.all_units.new.self (map (placed c.in_ok-file.file) units))
+    (subst (λ (n : ℕ). AddsUnits old new (map (placed n) tree.units)) c.in_ok-file.ensures
+    (subst (λ (units : List Unit). AddsUnits old new (map (placed c.in_ok-file.file) units))
     c.as_slice.ensures c.in_ok-all_units.ensures))

@@ -10,8 +10,10 @@ use Rattle.project_declarations.proofs.collected.Collected.values.Goals as goal
 
 pub loop-place-preserved : goal.loop-place-preserved
 loop-place-preserved c =
-    adds_value c.args.file c.args.node (take c.loop-place.place c.args.list.now) _
-    c.index-list-place.result c.loop-place.place
+    let k = c.loop-place.place in
+    let x = c.index-list-place.result in
+    adds_value c.args.file c.args.node (take k c.args.list.now) _ x k
     (grind (arith, common_steps)) (grind (arith, common_steps)) c.loop-place.invariant
-    (subst (λ (s : Site). Adds c.loop-place.self c.name.new.self [] [] (named c.args.file scope.VALUES c.index-list-place.result (what.Value s c.loop-place.place) ∷ []))
+    (subst (λ (s : Site). Adds c.loop-place.self c.name.new.self [] []
+    (named c.args.file scope.VALUES x (what.Value s k) ∷ []))
     c.site_of-site.ensures c.in_ok-name.ensures)
