@@ -23,6 +23,63 @@ pub enum Elem {
     Time,
 }
 
+/// The types in the order of [`Elem`], each with its name, the machine's type of its numbers and its bits: what differs from
+/// type to type is written once, by a macro that is handed these rows.
+#[macro_export]
+macro_rules! over_types {
+    ($write:ident $(, $of:expr)?) => {
+        $write!(
+            $($of;)?
+            Sint "SINT" i8 8, Int "INT" i16 16, Dint "DINT" i32 32, Lint "LINT" i64 64, Usint "USINT" u8 8,
+            Uint "UINT" u16 16, Udint "UDINT" u32 32, Ulint "ULINT" u64 64, Bool "BOOL" bool 1,
+            Byte "BYTE" u8 8, Word "WORD" u16 16, Dword "DWORD" u32 32, Lword "LWORD" u64 64,
+            Time "TIME" i64 64
+        )
+    };
+}
+
+macro_rules! name_of {
+    ($t:expr; $($elem:ident $name:literal $number:ident $bits:literal),*) => {
+        match $t {
+            $(Elem::$elem => $name,)*
+        }
+    };
+}
+
+macro_rules! least {
+    (bool) => {
+        0
+    };
+    ($number:ident) => {
+        $number::MIN as i128
+    };
+}
+
+macro_rules! low_of {
+    ($t:expr; $($elem:ident $name:literal $number:ident $bits:literal),*) => {
+        match $t {
+            $(Elem::$elem => least!($number),)*
+        }
+    };
+}
+
+macro_rules! greatest {
+    (bool) => {
+        1
+    };
+    ($number:ident) => {
+        $number::MAX as i128
+    };
+}
+
+macro_rules! high_of {
+    ($t:expr; $($elem:ident $name:literal $number:ident $bits:literal),*) => {
+        match $t {
+            $(Elem::$elem => greatest!($number),)*
+        }
+    };
+}
+
 impl Elem {
     ghost use Rattle.iec_tables.specs.Types.{name_of};
 
@@ -30,22 +87,7 @@ impl Elem {
     pub fn name(self) -> &'static str
         ensures { result.now ≡ name_of self }
     {
-        match self {
-            Elem::Sint => "SINT",
-            Elem::Int => "INT",
-            Elem::Dint => "DINT",
-            Elem::Lint => "LINT",
-            Elem::Usint => "USINT",
-            Elem::Uint => "UINT",
-            Elem::Udint => "UDINT",
-            Elem::Ulint => "ULINT",
-            Elem::Bool => "BOOL",
-            Elem::Byte => "BYTE",
-            Elem::Word => "WORD",
-            Elem::Dword => "DWORD",
-            Elem::Lword => "LWORD",
-            Elem::Time => "TIME",
-        }
+        over_types!(name_of, self)
     }
 }
 
@@ -53,38 +95,14 @@ impl Elem {
 pub fn low(t: Elem) -> i128
     ensures { result ≡ low_of t }
 {
-    match t {
-        Elem::Sint => i8::MIN as i128,
-        Elem::Int => i16::MIN as i128,
-        Elem::Dint => i32::MIN as i128,
-        Elem::Lint | Elem::Time => i64::MIN as i128,
-        Elem::Usint
-        | Elem::Uint
-        | Elem::Udint
-        | Elem::Ulint
-        | Elem::Bool
-        | Elem::Byte
-        | Elem::Word
-        | Elem::Dword
-        | Elem::Lword => 0,
-    }
+    over_types!(low_of, t)
 }
 
 /// The greatest number of the type.
 pub fn high(t: Elem) -> i128
     ensures { result ≡ high_of t }
 {
-    match t {
-        Elem::Sint => i8::MAX as i128,
-        Elem::Int => i16::MAX as i128,
-        Elem::Dint => i32::MAX as i128,
-        Elem::Lint | Elem::Time => i64::MAX as i128,
-        Elem::Bool => 1,
-        Elem::Usint | Elem::Byte => u8::MAX as i128,
-        Elem::Uint | Elem::Word => u16::MAX as i128,
-        Elem::Udint | Elem::Dword => u32::MAX as i128,
-        Elem::Ulint | Elem::Lword => u64::MAX as i128,
-    }
+    over_types!(high_of, t)
 }
 
 const Y: bool = true;

@@ -6,21 +6,10 @@ ghost use Rattle.interval_domain.specs.Bits as rows;
 
 use crate::interval::{Interval, meet};
 use iec_tables::elem::Elem;
-
-// The types in the order of `Elem`, each with its bits: what goes through all types is written by a
-// macro over these.
-macro_rules! over_types {
-    ($write:ident $(, $of:expr)?) => {
-        $write!(
-            $($of;)?
-            Sint 8, Int 16, Dint 32, Lint 64, Usint 8, Uint 16, Udint 32, Ulint 64, Bool 1, Byte 8, Word 16,
-            Dword 32, Lword 64, Time 64
-        )
-    };
-}
+use iec_tables::over_types;
 
 macro_rules! bits_of {
-    ($t:expr; $($elem:ident $bits:literal),*) => {
+    ($t:expr; $($elem:ident $name:literal $number:ident $bits:literal),*) => {
         match $t {
             $(Elem::$elem => $bits,)*
         }
@@ -28,7 +17,7 @@ macro_rules! bits_of {
 }
 
 macro_rules! all_of {
-    ($($elem:ident $bits:literal),*) => {
+    ($($elem:ident $name:literal $number:ident $bits:literal),*) => {
         [$(Elem::$elem),*]
     };
 }
