@@ -1,3 +1,4 @@
 pub mod Fields
 pub mod Schema
 pub mod Bounds
+pub mod Lawful

@@ -46,8 +46,12 @@ max_statements document = number 1 100000 500 (get_member field.max_statements d
 abbrev pub is_prefix_byte : ℕ → Bool
 is_prefix_byte byte = is_letter_or_digit byte || nat_eq byte 95
 
+-- 0 to 16 of them
+abbrev pub is_prefix : List ℕ → Bool
+is_prefix bytes = nat_le (length bytes) 16 && list_all is_prefix_byte bytes
+
 abbrev pub prefix_of : List ℕ → Option (List ℕ)
-prefix_of bytes = if nat_le (length bytes) 16 && list_all is_prefix_byte bytes then Some bytes else None
+prefix_of bytes = if is_prefix bytes then Some bytes else None
 
 -- the empty prefix where the field is missing
 abbrev pub prefix : Option Data → Option (List ℕ)

@@ -1,9 +1,10 @@
 // Settings from TOML.
-ghost use Rattle.std.specs.Prelude.{◌≡◌, MatchResult, Some, Err};
+ghost use Rattle.std.specs.Prelude.{◌≡◌, MatchResult, IfOk, Err};
 ghost use Rattle.toml.specs.View.{table_view};
 ghost use Rattle.station_settings.specs.Schema as schema;
 ghost use Rattle.station_settings.specs.Schema.{IsReading};
 ghost use Rattle.station_settings.specs.Bounds.{HasBounds};
+ghost use Rattle.station_settings.specs.Lawful.{IsLawful};
 
 use crate::callers::callers;
 use crate::disabled::rules;
@@ -16,7 +17,10 @@ use toml::Table;
 
 /// The settings of a text, or why it has none. NoMemory where there is none for its table or for them.
 pub fn read_settings(alloc: Global, text: &[u8]) -> Result<Settings, SettingsRefusal>
-    ensures { IsReading (schema.settings text.now) result }
+    ensures reading { IsReading (schema.settings text.now) result }
+
+    // Whoever takes settings may ask that they are lawful.
+    ensures lawful { IfOk result IsLawful }
 {
     let Ok(text) = str::from_utf8(text) else {
         return Err(SettingsRefusal::Bad(Field::Toml));
