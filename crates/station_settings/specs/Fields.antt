@@ -1,4 +1,5 @@
--- The fields of the settings, and what is told of a text that is refused. Source: this profile. The code matches on texts.
+-- The fields of the settings, and what is told of a text that is refused. Source: this profile. The
+-- code matches on texts.
 use Rattle.std.specs.Prelude.{ℕ, Bool, List, [], ◌∷◌, codes, bytes_eq}
 use Rattle.std.specs.List.{list_any}
 use Rattle.station_settings.specs.declared.field.Field.{Field}

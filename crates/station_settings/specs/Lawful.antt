@@ -1,5 +1,5 @@
--- Which settings are lawful: those that a text may have. Source: this profile. It speaks of settings alone, so that whoever
--- takes them may ask for it.
+-- Which settings are lawful: those that a text may have. Source: this profile. It speaks of
+-- settings alone, so that whoever takes them may ask for it.
 use Rattle.std.specs.Prelude.{Bool, ◌&&◌, ◌≤◌, IsTrue, length}
 use Rattle.std.specs.List.{list_all}
 use Rattle.st_tree.specs.declared.settings.Settings.{Settings}

@@ -1,5 +1,6 @@
--- Which texts are settings, and which settings they are. Source: this profile, over TOML 1.1 as `toml` defines it. The code asks
--- for the fields one by one and goes through the keys, the rules and the callers once; here a field is what its value may be.
+-- Which texts are settings, and which settings they are. Source: this profile, over TOML 1.1 as
+-- `toml` defines it. The code asks for the fields one by one and goes through the keys, the rules
+-- and the callers once; here a field is what its value may be.
 use Rattle.std.specs.Prelude.{◌≡◌, ℕ, suc, ◌+◌, ◌*◌, ◌-◌, max, ℤ, pos, negsuc, Bool, true, not, ◌&&◌, ◌||◌, if◌then◌else◌, List, [], ◌∷◌, length, Option, Some, None, Result, Ok, Err, ⊤, nat_eq, nat_le, bytes_eq, codes}
 use Rattle.std.specs.List.{list_all}
 use Rattle.std.specs.Ordering.{nat_cmp, is_lt}
@@ -120,7 +121,9 @@ members (member key value rest) = suc (members rest)
 -- a table of two members, a name and a key
 abbrev pub caller_in : Members → Option CallerKey
 caller_in entries =
-    if nat_eq (members entries) 2 then caller_of (get_member (codes "name") entries) (get_member (codes "key") entries) else None
+    if nat_eq (members entries) 2
+    then caller_of (get_member (codes "name") entries) (get_member (codes "key") entries)
+    else None
 
 abbrev pub caller : Data → Option CallerKey
 caller (table entries) = caller_in entries
@@ -161,7 +164,8 @@ lesser key (Some other) = if is_lt (slice_cmp nat_cmp other key) then other else
 -- the least key that is no field, if there is one
 abbrev pub least_unknown : Members → Option (List ℕ)
 least_unknown no_members = None
-least_unknown (member key value rest) = if field.is_field key then least_unknown rest else Some (lesser key (least_unknown rest))
+least_unknown (member key value rest) =
+    if field.is_field key then least_unknown rest else Some (lesser key (least_unknown rest))
 
 -- ---- settings
 
@@ -174,7 +178,8 @@ abbrev pub without : Option (List ℕ) → Settings → Result Settings Field
 without None settings = Ok settings
 without (Some key) settings = Err (Unknown key)
 
--- the settings of a document, or the first bad field in the order of the fields, and then the least key that is no field
+-- the settings of a document, or the first bad field in the order of the fields, and then the least
+-- key that is no field
 abbrev pub settings_of : Members → Result Settings Field
 settings_of document =
     need NameMin (name_min document) λ low.

@@ -45,7 +45,8 @@ fn callers_in(alloc: Global, tables: &Array) -> Result<Option<Items<CallerKey>>,
 }
 
 fn different_callers(alloc: Global, tables: &Array) -> Result<Option<Items<CallerKey>>, NoMemory>
-    ensures { IfOk result (λ callers. callers ≡ schema.if_differ (schema.each schema.caller (array_view tables.now))) }
+    ensures { IfOk result (λ callers. callers ≡
+        schema.if_differ (schema.each schema.caller (array_view tables.now))) }
 {
     match all_callers(alloc, tables)? {
         Some(callers) if all_differ(callers.as_slice()) => Ok(Some(callers)),
@@ -91,7 +92,9 @@ fn caller_of(
     name: Option<&Value>,
     key: Option<&Value>,
 ) -> Result<Option<CallerKey>, NoMemory>
-    ensures { IfOk result (λ caller. caller ≡ schema.caller_of (option_map (λ value. view value.now) name.entry) (option_map (λ value. view value.now) key.entry)) }
+    ensures { IfOk result (λ caller. caller ≡ schema.caller_of
+        (option_map (λ value. view value.now) name.entry)
+        (option_map (λ value. view value.now) key.entry)) }
 {
     match (name, key) {
         (Some(Value::String(name)), Some(Value::String(key))) => {

@@ -12,7 +12,8 @@ use tree_items::Items;
 
 /// The numbers of the rules whose codes stand there; None where it is something else.
 pub(crate) fn rules(alloc: Global, value: Option<&Value>) -> Result<Option<Items<u8>>, NoMemory>
-    ensures { IfOk result (λ rules. rules ≡ schema.rules (option_map (λ value. view value.now) value.entry)) }
+    ensures { IfOk result (λ rules. rules ≡
+        schema.rules (option_map (λ value. view value.now) value.entry)) }
 {
     match value {
         None => Ok(Some(Items::from_slice(alloc, &[7])?)),

@@ -18,7 +18,8 @@ pub(crate) fn value_at<'a>(table: &'a Table, key: &str) -> Option<&'a Value>
     table.get(key)
 }
 
-/// The whole number there, from `low` to `high`; `default` where there is nothing, and None where it is something else.
+/// The whole number there, from `low` to `high`; `default` where there is nothing, and None where
+/// it is something else.
 pub(crate) fn number(value: Option<&Value>, low: u32, high: u32, default: u32) -> Option<u32>
     ensures { result ≡ schema.number low high default (option_map (λ value. view value.now) value.entry) }
 {
@@ -41,7 +42,8 @@ fn within(number: i64, low: u32, high: u32) -> Option<u32>
 
 /// The prefix of global names there; None where it is something else.
 pub(crate) fn prefix(alloc: Global, value: Option<&Value>) -> Result<Option<Name>, NoMemory>
-    ensures { IfOk result (λ prefix. prefix ≡ schema.prefix (option_map (λ value. view value.now) value.entry)) }
+    ensures { IfOk result (λ prefix. prefix ≡
+        schema.prefix (option_map (λ value. view value.now) value.entry)) }
 {
     match value {
         None => Ok(Some(Name::from_vec(Vec::new(alloc)))),

@@ -15,7 +15,12 @@ use std::alloc::Global;
 use std::str;
 use toml::Table;
 
-/// The settings of a text, or why it has none. NoMemory where there is none for its table or for them.
+/// The settings of a TOML text, each field by its key: `name_min`, `name_max` (bytes),
+/// `max_nesting`, `max_statements`, `global_prefix`, `disabled` (a list of `S01` to `S24`),
+/// `caller` (tables of `name` and `key`). A field that is missing has its default. Bad: the text
+/// isn't TOML, a field has a value outside its bounds, or a key is no field; told is the first bad
+/// field in this order, and the least of the other keys after them. NoMemory where there was none
+/// for its table or for them.
 pub fn read_settings(alloc: Global, text: &[u8]) -> Result<Settings, SettingsRefusal>
     ensures reading { IsReading (schema.settings text.now) result }
 
