@@ -100,10 +100,10 @@ squeezed Equal Greater Equal h l e f = absurd (omega arith)
 key-is : {W : Type 0} (scope : ℕ) (name : List ℕ) (row : NameRow W) → Declares scope name row → key row ≡ (scope, raised_all name)
 key-is scope name row h = ap₂ (λ (s : ℕ) (n : List ℕ). (s, n)) h.0 h.1
 
-tied : {W : Type 0} (scope : ℕ) (name : List ℕ) (row : NameRow W) → Declares scope name row → against scope name row ≡ Equal
+pub tied : {W : Type 0} (scope : ℕ) (name : List ℕ) (row : NameRow W) → Declares scope name row → against scope name row ≡ Equal
 tied scope name row h = ap (λ k. key_cmp k (scope, raised_all name)) (key-is scope name row h) ∙ tied_itself keys_total (scope, raised_all name)
 
-declared : {W : Type 0} (scope : ℕ) (name : List ℕ) (row : NameRow W) → against scope name row ≡ Equal → Declares scope name row
+pub declared : {W : Type 0} (scope : ℕ) (name : List ℕ) (row : NameRow W) → against scope name row ≡ Equal → Declares scope name row
 declared scope name row h =
     let e = exact_keys (key row) (scope, raised_all name) h in
     (ap (λ k. k.0) e, ap (λ k. k.1) e)

@@ -1,10 +1,10 @@
 -- The names that scopes declare. Source: IEC 61131-3, third edition, identifiers and scopes of names: letter case does not
 -- tell names apart. The code keeps the rows sorted and searches by halves; here a row is named by what it declares and by
 -- where it stands among all rows of that scope and name.
-use Rattle.std.specs.Prelude.{◌≡◌, ℕ, ◌<◌, List, ◌++◌, IsTrue, length, slice_index_or}
-use Rattle.std.specs.List.{All, Contains}
+use Rattle.std.specs.Prelude.{◌≡◌, ℕ, ◌<◌, Bool, List, ◌++◌, Option, IsTrue, length, slice_index_or}
+use Rattle.std.specs.List.{All, Contains, find}
 use Rattle.std.specs.List.Sorted.{IsSorted}
-use Rattle.std.specs.Ordering.{nat_cmp, ordering_then, is_le}
+use Rattle.std.specs.Ordering.{nat_cmp, ordering_then, is_le, is_eq}
 use Rattle.std.specs.Cmp.Lexicographic.{slice_cmp}
 use Rattle.std.specs.declared.cmp.Ordering.{Ordering}
 use Rattle.iec_tables.specs.Words.{raised_all}
@@ -30,6 +30,14 @@ name_cmp scope name scope' name' = ordering_then (nat_cmp scope scope') (slice_c
 -- rows by scope, name and site
 abbrev pub row_cmp : {W : Type 0} → NameRow W → NameRow W → Ordering
 row_cmp a b = ordering_then (name_cmp a.scope a.name.now b.scope b.name.now) (site_cmp a.site b.site)
+
+-- whether the row declares that name in that scope
+abbrev pub declares : {W : Type 0} → ℕ → List ℕ → NameRow W → Bool
+declares scope name row = is_eq (name_cmp row.scope row.name.now scope name)
+
+-- the first of the rows that declares the name in the scope, where one does
+abbrev pub first_of : {W : Type 0} → List (NameRow W) → ℕ → List ℕ → Option (NameRow W)
+first_of rows scope name = find (declares scope name) rows
 
 -- of the rows that declare the name in the scope, the row is one, and no other stands before it
 pub record IsFirst {W : Type 0} (rows : List (NameRow W)) (scope : ℕ) (name : List ℕ) (row : NameRow W) : Type 0 where

@@ -1,7 +1,8 @@
 // The names that scopes declare, in one sorted table.
 ghost use Rattle.std.specs.Prelude.{◌≡◌, ◌↔◌, ◌≤◌, IsTrue, MatchOption, length};
 ghost use Rattle.std.specs.List.Sorted.{IsPermutation, IsSorted};
-ghost use Rattle.scope_names.specs.Scopes.{Declares, IsNowhere, IsFirst, IsLast, IsRun, Repeats, name_cmp, row_cmp};
+ghost use Rattle.std.specs.Option.{option_copied};
+ghost use Rattle.scope_names.specs.Scopes.{Declares, IsNowhere, IsFirst, IsLast, IsRun, Repeats, first_of, name_cmp, row_cmp};
 ghost use Rattle.scope_names.specs.Searches.{IsStart, IsEnd};
 
 use crate::letters::{compare_names, is_same_name};
@@ -64,9 +65,10 @@ impl<'t, W: Copy> Names<'t, W> {
     }
 
     /// The first declaration of a name in a scope, by file and node number, or None where the scope has none of that name.
-    /// Of several at one site it is one of them.
+    /// Of several at one site it is the first in the order of all rows.
     pub fn find(&self, scope: u32, name: &[u8]) -> Option<&NameRow<'t, W>>
-        ensures { MatchOption result (IsNowhere self.now scope name.now) (λ row. IsFirst self.now scope name.now row.now) }
+        ensures first { MatchOption result (IsNowhere self.now scope name.now) (λ row. IsFirst self.now scope name.now row.now) }
+        ensures exact { option_copied result ≡ first_of self.now scope name.now }
     {
         find_first(&self.rows, scope, name)
     }
@@ -101,7 +103,8 @@ fn find_first<'s, 't, W: Copy>(
     name: &[u8],
 ) -> Option<&'s NameRow<'t, W>>
     requires { IsSorted row_cmp rows.now }
-    ensures { MatchOption result (IsNowhere rows.now scope name.now) (λ row. IsFirst rows.now scope name.now row.now) }
+    ensures first { MatchOption result (IsNowhere rows.now scope name.now) (λ row. IsFirst rows.now scope name.now row.now) }
+    ensures exact { option_copied result ≡ first_of rows.now scope name.now }
 {
     let start = start_of(rows, scope, name);
     if start == rows.len() {
