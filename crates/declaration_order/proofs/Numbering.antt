@@ -1,6 +1,6 @@
 -- Declarations that are numbered from the last one on.
-use Rattle.std.proofs.Common.{◌≡◌, ℕ, suc, ◌+◌, ◌-◌, ◌<◌, ◌≤◌, List, [], ◌∷◌, length, get_or, drop, map, Some, refl, sym, ap, ◌∙◌, subst, arith, add-one, drop-cons, cond}
-use Rattle.std.specs.BTreeMap.{BTreeMap, get, Updates}
+use Rattle.std.proofs.Common.{◌≡◌, ℕ, suc, ◌+◌, ◌<◌, List, ◌∷◌, length, get_or, drop, Some, sym, ap, ◌∙◌, add-one, drop-cons, cond}
+use Rattle.std.specs.BTreeMap.{BTreeMap, Updates}
 use Rattle.std.specs.List.{position_from}
 use Rattle.project_declarations.specs.Declarations.{Declaration}
 use Rattle.declaration_order.specs.Numbers.{stands_at, decl_site}

@@ -1,8 +1,10 @@
-//! Which declarations of a project name which others, which lead back to themselves, and an order in
-//! which each comes behind those that it waits for.
+//! Which declarations of a project name which others, and which lead back to themselves.
 #![tactic(auto)]
 
 mod declared;
+mod graphs;
+mod leading;
 mod table;
 
 pub use declared::DeclTable;
+pub use leading::{DeclComponents, decl_components};

@@ -13,4 +13,4 @@ mod units;
 pub use collected::Collected;
 pub use files::collect;
 pub use rows::{DeclRow, Local, Owner, Source, UnitNo, UnitRow, What};
-pub use scopes::{ADDRESSES, GLOBAL, LINES, OUTERMOST, TASKS, VALUES};
+pub use scopes::{ADDRESSES, GLOBAL, LINES, OUTERMOST, TASKS, VALUES, locals};

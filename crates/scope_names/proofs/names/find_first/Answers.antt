@@ -1,5 +1,5 @@
-use Rattle.std.proofs.Common.{◌≡◌, ◌<◌, length, ap, sym, subst, arith, true≢false, ◌∙◌, Option, Some, get_or}
-use Rattle.scope_names.specs.Scopes.{Declares, IsFirst, IsNowhere, first_of}
+use Rattle.std.proofs.Common.{◌<◌, length, ap, sym, subst, arith, true≢false, ◌∙◌, Some}
+use Rattle.scope_names.specs.Scopes.{Declares, IsFirst}
 use Rattle.scope_names.proofs.Tables.{none-behind, none-there, first-there}
 use Rattle.scope_names.proofs.Found.{none-found, first-found}
 use Rattle.scope_names.proofs.names.find_first.Goals as goal
