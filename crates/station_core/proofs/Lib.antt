@@ -1,0 +1,4 @@
+mod Callers
+mod Lawful
+mod Outcomes
+mod Replies
