@@ -1,0 +1,5 @@
+mod Numbers
+mod Told
+mod Loops
+mod Indices
+mod Operands

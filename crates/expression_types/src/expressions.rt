@@ -1,0 +1,424 @@
+// What an expression is, or its faults: each call notes the first fault, and answers None where there is
+// one, or where what is faulty elsewhere is used.
+
+ghost use Rattle.std.specs.Prelude.{◌≡◌, map};
+ghost use Rattle.link_faults.specs.Checked.{Tells};
+ghost use Rattle.expression_types.specs.Lists.{TellsAll};
+ghost use Rattle.expression_types.specs.Meanings.{meant};
+ghost use Rattle.expression_types.specs.Judge as spec;
+
+use crate::answers::{still_good, where_all};
+use crate::judged::{ExprType, Judged, Place, Standing};
+use crate::loose::node_of;
+use crate::meaning::{Meaning, Names, Seen, ValueType};
+use crate::operators::{operated_pair, with_unary};
+use crate::parts::{element_of, field_of, root_seen, root_type, uncallable};
+use crate::places::fitted;
+use crate::rules::{
+    known, known_number, number_literal, plain, truth_number, typed, typed_literal, used,
+    value_of_type, varying, without_own,
+};
+use iec_tables::elem::Elem;
+use link_faults::Faults;
+use st_tree::{
+    Argument, BinaryOperator, Expr, Identifier, Node, Number, Part, Path, UnaryOperator,
+};
+
+/// Whether all indices are integers.
+#[cycle(expression)]
+#[tactic(auto, using(crate::proofs::Loops::told_step, crate::proofs::Loops::all_end))]
+fn are_integers<M: Meaning>(
+    meaning: &M,
+    standing: Standing,
+    faults: &mut Faults,
+    indices: &[Expr],
+) -> bool
+    ensures { TellsAll (spec.indices_in (meant (M.names meaning.now) (M.parts meaning.now))
+        standing (map (spec.read (meant (M.names meaning.now) (M.parts meaning.now)) standing)
+        indices.now)) faults.old faults.new result }
+{
+    let mut all = true;
+    for i in 0..indices.len() {
+        all = still_good(
+            all,
+            placed(meaning, standing, faults, Place::Integer, &indices[i]),
+        );
+    }
+    all
+}
+
+/// The indices of what is no array that is known.
+#[cycle(expression)]
+#[tactic(auto, using(crate::proofs::Told::alone))]
+fn indices_alone<M: Meaning>(
+    meaning: &M,
+    standing: Standing,
+    faults: &mut Faults,
+    indices: &[Expr],
+) -> Option<ValueType>
+    ensures { Tells (spec.indices_alone (meant (M.names meaning.now) (M.parts meaning.now))
+        standing (map (spec.read (meant (M.names meaning.now) (M.parts meaning.now)) standing)
+        indices.now)) faults.old faults.new result }
+{
+    let _also = are_integers(meaning, standing, faults, indices);
+    None
+}
+
+/// An element of what stands before it.
+#[cycle(expression)]
+#[tactic(auto, using(crate::proofs::Indices::index_told))]
+fn element<M: Meaning>(
+    meaning: &M,
+    standing: Standing,
+    faults: &mut Faults,
+    node: Node,
+    indices: &[Expr],
+    before: ValueType,
+) -> Option<ValueType>
+    ensures { Tells (spec.indexed (meant (M.names meaning.now) (M.parts meaning.now)) standing
+        node (map (spec.read (meant (M.names meaning.now) (M.parts meaning.now)) standing)
+        indices.now) before) faults.old faults.new result }
+{
+    let element = element_of(meaning, standing, faults, node, indices.len(), before);
+    let all = are_integers(meaning, standing, faults, indices);
+    where_all(all, element)
+}
+
+/// A part of what stands before it, where that is known.
+#[cycle(expression)]
+#[tactic(auto, unfolding(crate::specs::Judge::read_part, crate::specs::Judge::read))]
+fn part_type<M: Meaning>(
+    meaning: &M,
+    standing: Standing,
+    faults: &mut Faults,
+    node: Node,
+    before: Option<ValueType>,
+    part: &Part,
+) -> Option<ValueType>
+    ensures { Tells (spec.part_of (spec.read_part (meant (M.names meaning.now) (M.parts
+        meaning.now)) standing part.now) node before) faults.old faults.new result }
+{
+    match part {
+        Part::Field(name) => match before {
+            None => None,
+            Some(before) => field_of(meaning, standing, faults, node, name, before),
+        },
+        Part::Index(_, indices) => match before {
+            None => indices_alone(meaning, standing, faults, indices.as_slice()),
+            Some(before) => { element(meaning, standing, faults, node, indices.as_slice(), before) }
+        },
+    }
+}
+
+/// From part to part.
+#[cycle(expression)]
+#[tactic(auto, using(crate::proofs::Loops::part_step, crate::proofs::Loops::part_end))]
+fn walk<M: Meaning>(
+    meaning: &M,
+    standing: Standing,
+    faults: &mut Faults,
+    node: Node,
+    before: Option<ValueType>,
+    parts: &[Part],
+) -> Option<ValueType>
+    ensures { Tells (spec.walk node (map (spec.read_part (meant (M.names meaning.now) (M.parts
+        meaning.now)) standing) parts.now) before) faults.old faults.new result }
+{
+    let mut ty = before;
+    for i in 0..parts.len() {
+        ty = part_type(meaning, standing, faults, node, ty, &parts[i]);
+    }
+    ty
+}
+
+/// A variable's part.
+#[cycle(expression)]
+#[tactic(auto, using(crate::proofs::Told::both_some, crate::proofs::Told::both_left, crate::proofs::Told::both_right))]
+fn with_parts<M: Meaning>(
+    meaning: &M,
+    standing: Standing,
+    faults: &mut Faults,
+    node: Node,
+    seen: Seen,
+    parts: &[Part],
+) -> Option<Judged>
+    ensures { Tells (spec.with_parts standing node (map (spec.read_part (meant (M.names
+        meaning.now) (M.parts meaning.now)) standing) parts.now) (spec.root_type standing node
+        seen)) faults.old faults.new result }
+{
+    match root_type(faults, standing, node, seen) {
+        None => {
+            let _also = walk(meaning, standing, faults, node, None, parts);
+            None
+        }
+        Some(root) => match walk(meaning, standing, faults, node, Some(root), parts) {
+            None => None,
+            Some(last) => Some(varying(standing, typed(last))),
+        },
+    }
+}
+
+/// What is seen, alone or with parts.
+#[cycle(expression)]
+#[tactic(auto, using(crate::proofs::Told::parts_told))]
+fn seen_judged<M: Meaning>(
+    meaning: &M,
+    standing: Standing,
+    faults: &mut Faults,
+    node: Node,
+    seen: Seen,
+    parts: &[Part],
+) -> Option<Judged>
+    ensures { Tells (spec.seen_judged standing node seen (map (spec.read_part (meant (M.names
+        meaning.now) (M.parts meaning.now)) standing) parts.now)) faults.old faults.new result }
+{
+    match parts {
+        [] => used(faults, standing, node, seen),
+        [_, ..] => with_parts(meaning, standing, faults, node, seen, parts),
+    }
+}
+
+/// A variable, a constant, or a part of one.
+#[cycle(expression)]
+#[tactic(auto, unfolding(crate::specs::Judge::read_path, crate::specs::Judge::read_part))]
+pub fn judge_path<M: Meaning>(
+    meaning: &M,
+    standing: Standing,
+    faults: &mut Faults,
+    path: &Path,
+) -> Option<Judged>
+    ensures { Tells (spec.read_path (meant (M.names meaning.now) (M.parts meaning.now)) standing
+        path.now).judged faults.old faults.new result }
+{
+    let seen = root_seen(meaning, &path.root);
+    seen_judged(
+        meaning,
+        standing,
+        faults,
+        path.node,
+        seen,
+        path.parts.as_slice(),
+    )
+}
+
+/// The value of an argument, where any type will do.
+#[cycle(expression)]
+#[tactic(auto, unfolding(crate::specs::Judge::read_argument, crate::specs::Judge::read))]
+fn argument_value<M: Meaning>(
+    meaning: &M,
+    standing: Standing,
+    faults: &mut Faults,
+    argument: &Argument,
+) -> Option<Judged>
+    ensures { Tells (spec.argument_value (meant (M.names meaning.now) (M.parts meaning.now))
+        standing (spec.read_argument (meant (M.names meaning.now) (M.parts meaning.now)) standing
+        argument.now)) faults.old faults.new result }
+{
+    placed(meaning, standing, faults, Place::Any, argument.value.get())
+}
+
+/// Whether the arguments' values hold no faults.
+#[cycle(expression)]
+#[tactic(auto, using(crate::proofs::Loops::told_step, crate::proofs::Loops::all_end))]
+fn are_values<M: Meaning>(
+    meaning: &M,
+    standing: Standing,
+    faults: &mut Faults,
+    arguments: &[Argument],
+) -> bool
+    ensures { TellsAll (spec.arguments_in (meant (M.names meaning.now) (M.parts meaning.now))
+        standing (map (spec.read_argument (meant (M.names meaning.now) (M.parts meaning.now))
+        standing) arguments.now)) faults.old faults.new result }
+{
+    let mut all = true;
+    for i in 0..arguments.len() {
+        all = still_good(
+            all,
+            argument_value(meaning, standing, faults, &arguments[i]),
+        );
+    }
+    all
+}
+
+#[cycle(expression)]
+#[tactic(auto, using(crate::proofs::Told::with_all_told))]
+fn call<M: Meaning>(
+    meaning: &M,
+    standing: Standing,
+    faults: &mut Faults,
+    node: Node,
+    name: &Identifier,
+    arguments: &[Argument],
+) -> Option<Judged>
+    ensures { Tells (spec.called (meant (M.names meaning.now) (M.parts meaning.now)) standing node
+        name.now (map (spec.read_argument (meant (M.names meaning.now) (M.parts meaning.now))
+        standing) arguments.now)) faults.old faults.new result }
+{
+    let called = uncallable(faults, standing, node, meaning.callee(name.name.bytes()));
+    let all = are_values(meaning, standing, faults, arguments);
+    where_all(all, called)
+}
+
+/// An operand: a fault of its own counts.
+#[cycle(expression)]
+#[tactic(auto, using(crate::proofs::Told::bind_some, crate::proofs::Told::bind_none))]
+fn operand<M: Meaning>(
+    meaning: &M,
+    standing: Standing,
+    faults: &mut Faults,
+    e: &Expr,
+) -> Option<Judged>
+    ensures { Tells (spec.operand standing (spec.read (meant (M.names meaning.now) (M.parts
+        meaning.now)) standing e.now).node (spec.read (meant (M.names meaning.now) (M.parts
+        meaning.now)) standing e.now).judged) faults.old faults.new result }
+{
+    match judge(meaning, standing, faults, e) {
+        Some(judged) => without_own(faults, standing, node_of(meaning, standing, e), judged),
+        None => None,
+    }
+}
+
+#[cycle(expression)]
+#[tactic(auto, using(crate::proofs::Told::bind_some, crate::proofs::Told::bind_none))]
+fn unary<M: Meaning>(
+    meaning: &M,
+    standing: Standing,
+    faults: &mut Faults,
+    node: Node,
+    operator: UnaryOperator,
+    e: &Expr,
+) -> Option<Judged>
+    ensures { Tells (spec.unary standing node operator (spec.read (meant (M.names meaning.now)
+        (M.parts meaning.now)) standing e.now)) faults.old faults.new result }
+{
+    match operand(meaning, standing, faults, e) {
+        Some(judged) => with_unary(meaning, standing, faults, node, operator, e, judged),
+        None => None,
+    }
+}
+
+/// What an expression is.
+#[cycle(expression)]
+#[tactic(auto, unfolding(crate::specs::Judge::read, crate::specs::Judge::read_path, crate::specs::Judge::read_argument))]
+pub fn judge<M: Meaning>(
+    meaning: &M,
+    standing: Standing,
+    faults: &mut Faults,
+    e: &Expr,
+) -> Option<Judged>
+    ensures { Tells (spec.read (meant (M.names meaning.now) (M.parts meaning.now)) standing
+        e.now).judged faults.old faults.new result }
+{
+    match e {
+        Expr::Number(_, _, _) => Some(plain(ExprType::Loose)),
+        Expr::Typed(node, text) => {
+            typed_literal(faults, standing, *node, meaning.typed_literal(text.bytes()))
+        }
+        Expr::Time(node, text) => {
+            number_literal(
+                faults,
+                standing,
+                *node,
+                meaning.time(text.bytes()),
+                Elem::Time,
+            )
+        }
+        Expr::Truth(_, truth) => Some(known(ExprType::Elem(Elem::Bool), truth_number(*truth))),
+        Expr::Path(path) => judge_path(meaning, standing, faults, path),
+        Expr::Value(node, name, value) => value_of_type(
+            faults,
+            standing,
+            *node,
+            name.node,
+            value.node,
+            meaning.type_value(name.name.bytes(), value.name.bytes()),
+        ),
+        Expr::Parenthesized(_, inner) => judge(meaning, standing, faults, inner.get()),
+        Expr::Unary(node, operator, operand) => {
+            unary(meaning, standing, faults, *node, *operator, operand.get())
+        }
+        Expr::Binary(node, operator, left, right) => {
+            let l = left.get();
+            let r = right.get();
+            let a = operand(meaning, standing, faults, l);
+            let b = operand(meaning, standing, faults, r);
+            operated_pair(meaning, standing, faults, *node, *operator, l, r, a, b)
+        }
+        Expr::Call(node, name, arguments) => {
+            call(meaning, standing, faults, *node, name, arguments.as_slice())
+        }
+    }
+}
+
+/// An expression at its place.
+#[cycle(expression)]
+#[tactic(auto, using(crate::proofs::Told::bind_some, crate::proofs::Told::bind_none))]
+pub fn placed<M: Meaning>(
+    meaning: &M,
+    standing: Standing,
+    faults: &mut Faults,
+    place: Place,
+    e: &Expr,
+) -> Option<Judged>
+    ensures { Tells (spec.placed (meant (M.names meaning.now) (M.parts meaning.now)) standing
+        place e.now) faults.old faults.new result }
+{
+    match judge(meaning, standing, faults, e) {
+        Some(judged) => fitted(meaning, standing, faults, place, e, judged),
+        None => None,
+    }
+}
+
+fn number_of<M: Meaning>(
+    meaning: &M,
+    standing: Standing,
+    faults: &mut Faults,
+    e: &Expr,
+    judged: Judged,
+) -> Option<Number>
+    ensures { Tells (spec.number_of standing (spec.read (meant (M.names meaning.now) (M.parts
+        meaning.now)) standing e.now) judged) faults.old faults.new result }
+{
+    known_number(
+        faults,
+        standing,
+        node_of(meaning, standing, e),
+        judged.number,
+    )
+}
+
+#[tactic(auto, using(crate::proofs::Told::bind_some, crate::proofs::Told::bind_none))]
+fn constant_placed<M: Meaning>(
+    meaning: &M,
+    standing: Standing,
+    faults: &mut Faults,
+    place: Place,
+    e: &Expr,
+) -> Option<Number>
+    ensures { Tells (spec.constant_placed (meant (M.names meaning.now) (M.parts meaning.now))
+        standing place e.now) faults.old faults.new result }
+{
+    match placed(meaning, standing, faults, place, e) {
+        Some(judged) => number_of(meaning, standing, faults, e, judged),
+        None => None,
+    }
+}
+
+/// The number of an expression that must be constant, at its place, in a file by its place among the
+/// project's files.
+pub fn constant_number<M: Meaning>(
+    meaning: &M,
+    file: u16,
+    faults: &mut Faults,
+    place: Place,
+    e: &Expr,
+) -> Option<Number>
+    ensures { Tells (spec.constant_number (meant (M.names meaning.now) (M.parts meaning.now)) file
+        place e.now) faults.old faults.new result }
+{
+    let standing = Standing {
+        file,
+        constant: true,
+    };
+    constant_placed(meaning, standing, faults, place, e)
+}

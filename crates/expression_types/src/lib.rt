@@ -1,0 +1,21 @@
+//! What expressions are: their types, the numbers of constant ones, and their faults.
+#![tactic(auto)]
+
+mod answers;
+mod expressions;
+mod judged;
+mod loose;
+mod meaning;
+mod operators;
+mod parts;
+mod places;
+mod rules;
+mod types;
+
+pub use expressions::{constant_number, judge, judge_path, placed};
+pub use judged::{ExprType, Judged, Place, Standing};
+pub use loose::node_of;
+pub use meaning::{
+    Callee, Constant, Field, Meaning, Names, Seen, ShapeNo, TypeValue, TypedNumber, ValueType,
+};
+pub use types::common;
