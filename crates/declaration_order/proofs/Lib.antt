@@ -1,1 +1,4 @@
 pub mod Numbering
+pub mod Waits
+pub mod Named
+pub mod InOrder

@@ -100,6 +100,10 @@ names_a_value kind.Variable = false
 names_a_value kind.ValueType = true
 names_a_value kind.Global = false
 
+-- all of them
+abbrev pub names : Wanted
+names kind = true
+
 abbrev pub target : Wanted → Finds → List Declaration → Owner → Referred → List ℕ
 target wanted finds decls owner r =
     cond (wanted r.kind) (option_to_list (number_named finds decls owner r)) []

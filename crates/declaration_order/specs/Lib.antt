@@ -4,3 +4,4 @@ pub mod Tables
 pub mod Leads
 pub mod Wants
 pub mod LeadBack
+pub mod Computable

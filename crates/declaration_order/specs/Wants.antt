@@ -7,3 +7,4 @@ abbrev pub wanted_of : Wanted → spec.Wanted
 wanted_of wants.Leads = spec.leads
 wanted_of wants.LeadsByType = spec.leads_by_type
 wanted_of wants.NamesAValue = spec.names_a_value
+wanted_of wants.Names = spec.names

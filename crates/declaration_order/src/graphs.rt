@@ -121,6 +121,8 @@ pub(crate) enum Wanted {
     LeadsByType,
     /// The types of values that are written `Type#value`.
     NamesAValue,
+    /// All names.
+    Names,
 }
 
 fn counts(wanted: Wanted, kind: ReferenceKind) -> bool
@@ -139,6 +141,7 @@ fn counts(wanted: Wanted, kind: ReferenceKind) -> bool
             ReferenceKind::ValueType => true,
             _ => false,
         },
+        Wanted::Names => true,
     }
 }
 

@@ -1,10 +1,13 @@
-//! Which declarations of a project name which others, and which lead back to themselves.
+//! Which declarations of a project name which others, which lead back to themselves,
+//! and an order in which each comes behind those that it waits for.
 #![tactic(auto)]
 
+mod computing;
 mod declared;
 mod graphs;
 mod leading;
 mod table;
 
+pub use computing::computing_order;
 pub use declared::DeclTable;
 pub use leading::{DeclComponents, decl_components};
