@@ -10,6 +10,7 @@ ghost use Rattle.st_expr.specs.steps.Parse as spec;
 ghost use Rattle.st_expr.specs.steps.Nests.{Nests};
 
 use crate::names::{identifier, node_at, word};
+use crate::or_drop;
 use crate::rank::{operators, rank_of, sees_operator};
 use st_tree::{Argument, BinaryOperator, Expr, Identifier, Node, Path, Root, UnaryOperator};
 use std::alloc::{AllocError, Global};
@@ -124,8 +125,8 @@ impl<F: Fn(Global, &mut Cursor<'_>, usize) -> Result<Boxed<Expr>, ParseError>> G
         ensures { Reads (spec.named_argument (spec.nested self.now.nest) (view cursor.old)) result (view cursor.new) }
     {
         let name = identifier(self.alloc, cursor)?;
-        cursor.take(TokenKind::Becomes)?;
-        let value = self.expr(cursor)?;
+        or_drop!(cursor.take(TokenKind::Becomes); name);
+        let value = or_drop!(self.expr(cursor); name);
         Ok((Some(name), value))
     }
 
@@ -196,7 +197,7 @@ impl<F: Fn(Global, &mut Cursor<'_>, usize) -> Result<Boxed<Expr>, ParseError>> G
         let depth = cursor.depth;
         cursor.enter(TokenKind::OpenParenthesis)?;
         let found = self.arguments(cursor)?;
-        cursor.take(TokenKind::CloseParenthesis)?;
+        or_drop!(cursor.take(TokenKind::CloseParenthesis); found);
         cursor.depth = depth;
         Ok(found)
     }
@@ -210,17 +211,17 @@ impl<F: Fn(Global, &mut Cursor<'_>, usize) -> Result<Boxed<Expr>, ParseError>> G
         let start = cursor.start();
         let name = identifier(self.alloc, cursor)?;
         if cursor.sees(TokenKind::Hash) {
-            cursor.take(TokenKind::Hash)?;
-            let value = identifier(self.alloc, cursor)?;
+            or_drop!(cursor.take(TokenKind::Hash); name);
+            let value = or_drop!(identifier(self.alloc, cursor); name);
             let node = node_at(start, cursor.last);
             return Ok(Boxed::new(self.alloc, Expr::Value(node, name, value))?);
         }
         if cursor.sees(TokenKind::OpenParenthesis) {
-            let found = self.called(cursor)?;
+            let found = or_drop!(self.called(cursor); name);
             let node = node_at(start, cursor.last);
             return Ok(Boxed::new(self.alloc, Expr::Call(node, name, found))?);
         }
-        let parts = self.parts(cursor)?;
+        let parts = or_drop!(self.parts(cursor); name);
         let path = Path {
             node: node_at(start, cursor.last),
             root: Root::Name(name),
@@ -239,7 +240,7 @@ impl<F: Fn(Global, &mut Cursor<'_>, usize) -> Result<Boxed<Expr>, ParseError>> G
         let depth = cursor.depth;
         cursor.enter(TokenKind::OpenParenthesis)?;
         let inner = self.expr(cursor)?;
-        cursor.take(TokenKind::CloseParenthesis)?;
+        or_drop!(cursor.take(TokenKind::CloseParenthesis); inner);
         cursor.depth = depth;
         let node = node_at(start, cursor.last);
         Ok(Boxed::new(self.alloc, Expr::Parenthesized(node, inner))?)

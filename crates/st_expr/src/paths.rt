@@ -7,6 +7,7 @@ ghost use Rattle.st_expr.specs.steps.Nests.{Nests};
 
 use crate::expressions::Grammar;
 use crate::names::{address, identifier, node_at};
+use crate::or_drop;
 use st_tree::{Expr, Part, Path, Root};
 use std::alloc::Global;
 use token_grammar::{Cursor, ParseError, TokenKind};
@@ -68,7 +69,7 @@ impl<F: Fn(Global, &mut Cursor<'_>, usize) -> Result<Boxed<Expr>, ParseError>> G
         let depth = cursor.depth;
         cursor.enter(TokenKind::OpenBracket)?;
         let found = self.exprs(cursor)?;
-        cursor.take(TokenKind::CloseBracket)?;
+        or_drop!(cursor.take(TokenKind::CloseBracket); found);
         cursor.depth = depth;
         Ok(Part::Index(node_at(start, cursor.last), found))
     }
@@ -129,7 +130,7 @@ impl<F: Fn(Global, &mut Cursor<'_>, usize) -> Result<Boxed<Expr>, ParseError>> G
     {
         let start = cursor.start();
         let root = self.any_root(cursor)?;
-        let parts = self.parts(cursor)?;
+        let parts = or_drop!(self.parts(cursor); root);
         Ok(Path {
             node: node_at(start, cursor.last),
             root,
@@ -145,7 +146,7 @@ impl<F: Fn(Global, &mut Cursor<'_>, usize) -> Result<Boxed<Expr>, ParseError>> G
     {
         let start = cursor.start();
         let root = Root::Address(address(self.alloc, cursor)?);
-        let parts = self.parts(cursor)?;
+        let parts = or_drop!(self.parts(cursor); root);
         Ok(Path {
             node: node_at(start, cursor.last),
             root,
