@@ -4,7 +4,7 @@ ghost use Rattle.std.specs.Prelude.{◌≡◌};
 ghost use Rattle.token_grammar.specs.steps.Parsers.{Reads, view};
 ghost use Rattle.sfc_text.specs.steps.Parse as spec;
 
-use st_expr::{identifier, node_at};
+use st_expr::{identifier, node_at, or_drop};
 use st_statements::statement_list;
 use st_tree::Action;
 use std::alloc::Global;
@@ -18,9 +18,9 @@ pub(crate) fn action(alloc: Global, cursor: &mut Cursor<'_>) -> Result<Action, P
     let start = cursor.start();
     cursor.take(TokenKind::Action)?;
     let name = identifier(alloc, cursor)?;
-    cursor.take(TokenKind::Colon)?;
-    let body = statement_list(alloc, cursor)?;
-    cursor.take(TokenKind::EndAction)?;
+    or_drop!(cursor.take(TokenKind::Colon); name);
+    let body = or_drop!(statement_list(alloc, cursor); name);
+    or_drop!(cursor.take(TokenKind::EndAction); name, body);
     Ok(Action {
         node: node_at(start, cursor.last),
         name,

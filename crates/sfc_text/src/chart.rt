@@ -7,7 +7,7 @@ ghost use Rattle.sfc_text.specs.steps.Parse as spec;
 use crate::actions::action;
 use crate::steps::step_as;
 use crate::transitions::transition;
-use st_expr::node_at;
+use st_expr::{node_at, or_drop};
 use st_tree::{Sfc, SfcPart};
 use std::alloc::Global;
 use token_grammar::{Cursor, ParseError, TokenKind};
@@ -70,7 +70,7 @@ pub fn sfc(alloc: Global, cursor: &mut Cursor<'_>) -> Result<Sfc, ParseError>
 {
     let start = cursor.start();
     let initial = step_as(alloc, cursor, TokenKind::InitialStep)?;
-    let parts = chart_parts(alloc, cursor)?;
+    let parts = or_drop!(chart_parts(alloc, cursor); initial);
     Ok(Sfc {
         node: node_at(start, cursor.last),
         initial,

@@ -4,7 +4,7 @@ ghost use Rattle.std.specs.Prelude.{◌≡◌};
 ghost use Rattle.token_grammar.specs.steps.Parsers.{Reads, ReadsTo, view};
 ghost use Rattle.sfc_text.specs.steps.Parse as spec;
 
-use st_expr::{identifier, node_at};
+use st_expr::{identifier, node_at, or_drop};
 use st_tree::{Association, Identifier, Step};
 use std::alloc::Global;
 use token_grammar::{Cursor, ParseError, TokenKind};
@@ -32,7 +32,7 @@ fn qualifier(alloc: Global, cursor: &mut Cursor<'_>) -> Result<Option<Identifier
     let depth = cursor.depth;
     cursor.enter(TokenKind::OpenParenthesis)?;
     let found = optional_name(alloc, cursor)?;
-    cursor.take(TokenKind::CloseParenthesis)?;
+    or_drop!(cursor.take(TokenKind::CloseParenthesis); found);
     cursor.depth = depth;
     Ok(found)
 }
@@ -44,8 +44,8 @@ fn association(alloc: Global, cursor: &mut Cursor<'_>) -> Result<Association, Pa
 {
     let start = cursor.start();
     let action = identifier(alloc, cursor)?;
-    let qualifier = qualifier(alloc, cursor)?;
-    cursor.take(TokenKind::Semicolon)?;
+    let qualifier = or_drop!(qualifier(alloc, cursor); action);
+    or_drop!(cursor.take(TokenKind::Semicolon); action, qualifier);
     Ok(Association {
         node: node_at(start, cursor.last),
         action,
@@ -92,9 +92,9 @@ pub(crate) fn step_as(
     let start = cursor.start();
     cursor.take(kind)?;
     let name = identifier(alloc, cursor)?;
-    cursor.take(TokenKind::Colon)?;
-    let associations = associations(alloc, cursor)?;
-    cursor.take(TokenKind::EndStep)?;
+    or_drop!(cursor.take(TokenKind::Colon); name);
+    let associations = or_drop!(associations(alloc, cursor); name);
+    or_drop!(cursor.take(TokenKind::EndStep); name, associations);
     Ok(Step {
         node: node_at(start, cursor.last),
         name,

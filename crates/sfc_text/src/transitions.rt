@@ -5,7 +5,7 @@ ghost use Rattle.token_grammar.specs.steps.Parsers.{Reads, view};
 ghost use Rattle.sfc_text.specs.steps.Parse as spec;
 
 use crate::steps::optional_name;
-use st_expr::{any_expression, identifier, name_list, node_at};
+use st_expr::{any_expression, identifier, name_list, node_at, or_drop};
 use st_tree::{Expr, StepNames, Transition};
 use std::alloc::Global;
 use token_grammar::{Cursor, ParseError, TokenKind};
@@ -20,7 +20,7 @@ fn several(alloc: Global, cursor: &mut Cursor<'_>) -> Result<StepNames, ParseErr
     let depth = cursor.depth;
     cursor.enter(TokenKind::OpenParenthesis)?;
     let found = name_list(alloc, cursor)?;
-    cursor.take(TokenKind::CloseParenthesis)?;
+    or_drop!(cursor.take(TokenKind::CloseParenthesis); found);
     cursor.depth = depth;
     Ok(StepNames::Several(node_at(start, cursor.last), found))
 }
@@ -43,8 +43,8 @@ fn link(alloc: Global, cursor: &mut Cursor<'_>) -> Result<(StepNames, StepNames)
 {
     cursor.take(TokenKind::From)?;
     let from = step_names(alloc, cursor)?;
-    cursor.take(TokenKind::To)?;
-    let to = step_names(alloc, cursor)?;
+    or_drop!(cursor.take(TokenKind::To); from);
+    let to = or_drop!(step_names(alloc, cursor); from);
     Ok((from, to))
 }
 
@@ -55,7 +55,7 @@ fn condition(alloc: Global, cursor: &mut Cursor<'_>) -> Result<Boxed<Expr>, Pars
 {
     cursor.take(TokenKind::Becomes)?;
     let condition = any_expression(alloc, cursor)?;
-    cursor.take(TokenKind::Semicolon)?;
+    or_drop!(cursor.take(TokenKind::Semicolon); condition);
     Ok(condition)
 }
 
@@ -67,9 +67,9 @@ pub(crate) fn transition(alloc: Global, cursor: &mut Cursor<'_>) -> Result<Trans
     let start = cursor.start();
     cursor.take(TokenKind::Transition)?;
     let name = optional_name(alloc, cursor)?;
-    let (from, to) = link(alloc, cursor)?;
-    let condition = condition(alloc, cursor)?;
-    cursor.take(TokenKind::EndTransition)?;
+    let (from, to) = or_drop!(link(alloc, cursor); name);
+    let condition = or_drop!(condition(alloc, cursor); name, from, to);
+    or_drop!(cursor.take(TokenKind::EndTransition); name, from, to, condition);
     Ok(Transition {
         node: node_at(start, cursor.last),
         name,

@@ -10,7 +10,7 @@ ghost use Rattle.st_statements.specs.steps.Nests.{NestsStatements};
 use crate::labels::{labels, labels_behind, point_behind, value_point};
 use crate::simple::behind_name;
 use crate::statements::{Block, sees_unnamed};
-use st_expr::{any_expression, identifier, node_at};
+use st_expr::{any_expression, identifier, node_at, or_drop};
 use st_tree::{Case, Identifier, Label, Stmt};
 use std::alloc::{AllocError, Global};
 use token_grammar::{Cursor, ParseError, TokenKind};
@@ -108,8 +108,8 @@ impl<F: Fn(Global, &mut Cursor<'_>, usize) -> Result<Stmt, ParseError>> Block<F>
         ensures { ReadsAs branches_of (spec.label_case (spec.nested self.now.nest) (branches_of found) name
             (view cursor.old)) result (view cursor.new) }
     {
-        let first = point_behind(self.alloc, cursor, name)?;
-        let labels = labels_behind(self.alloc, cursor, first)?;
+        let first = or_drop!(point_behind(self.alloc, cursor, name); found);
+        let labels = or_drop!(labels_behind(self.alloc, cursor, first); found);
         Ok(found.begin(self.alloc, labels)?)
     }
 
@@ -127,7 +127,7 @@ impl<F: Fn(Global, &mut Cursor<'_>, usize) -> Result<Stmt, ParseError>> Block<F>
         if sees_label(cursor) {
             return self.label_case(cursor, found, name);
         }
-        let statement = behind_name(self.alloc, cursor, name)?;
+        let statement = or_drop!(behind_name(self.alloc, cursor, name); found);
         Ok(found.add(statement)?)
     }
 
@@ -137,8 +137,8 @@ impl<F: Fn(Global, &mut Cursor<'_>, usize) -> Result<Stmt, ParseError>> Block<F>
         ensures { ReadsAs branches_of (spec.value_case (spec.nested self.now.nest) (branches_of found)
             (view cursor.old)) result (view cursor.new) }
     {
-        let first = value_point(self.alloc, cursor)?;
-        let labels = labels_behind(self.alloc, cursor, first)?;
+        let first = or_drop!(value_point(self.alloc, cursor); found);
+        let labels = or_drop!(labels_behind(self.alloc, cursor, first); found);
         Ok(found.begin(self.alloc, labels)?)
     }
 
@@ -150,17 +150,17 @@ impl<F: Fn(Global, &mut Cursor<'_>, usize) -> Result<Stmt, ParseError>> Block<F>
             (view cursor.old)) result (view cursor.new) }
     {
         if cursor.sees(TokenKind::Semicolon) {
-            cursor.take(TokenKind::Semicolon)?;
+            or_drop!(cursor.take(TokenKind::Semicolon); found);
             return Ok(found);
         }
         if cursor.sees(TokenKind::Name) {
-            let name = identifier(self.alloc, cursor)?;
+            let name = or_drop!(identifier(self.alloc, cursor); found);
             return self.case_behind(cursor, found, name);
         }
         if sees_value(cursor) {
             return self.value_case(cursor, found);
         }
-        let statement = self.statement(cursor)?;
+        let statement = or_drop!(self.statement(cursor); found);
         Ok(found.add(statement)?)
     }
 
@@ -205,10 +205,10 @@ impl<F: Fn(Global, &mut Cursor<'_>, usize) -> Result<Stmt, ParseError>> Block<F>
         let start = cursor.start();
         cursor.enter(TokenKind::Case)?;
         let selector = any_expression(self.alloc, cursor)?;
-        cursor.take(TokenKind::Of)?;
-        let found = self.branches(cursor)?;
-        let otherwise = self.otherwise(cursor)?;
-        cursor.take(TokenKind::EndCase)?;
+        or_drop!(cursor.take(TokenKind::Of); selector);
+        let found = or_drop!(self.branches(cursor); selector);
+        let otherwise = or_drop!(self.otherwise(cursor); selector, found);
+        or_drop!(cursor.take(TokenKind::EndCase); selector, found, otherwise);
         cursor.depth = depth;
         Ok(Stmt::Case(node_at(start, cursor.last), selector, found, otherwise))
     }

@@ -5,7 +5,7 @@ ghost use Rattle.token_grammar.specs.steps.Parsers.{Reads, ReadsTo, view};
 ghost use Rattle.st_statements.specs.steps.Parse as spec;
 ghost use Rattle.st_statements.specs.Trees as trees;
 
-use st_expr::{identifier, node_at, word};
+use st_expr::{identifier, node_at, or_drop, word};
 use st_tree::{Identifier, Label, Point};
 use std::alloc::Global;
 use token_grammar::{Cursor, ParseError, TokenKind};
@@ -86,8 +86,8 @@ pub fn point_behind(
     ensures { Reads (spec.point_behind name (view cursor.old)) result (view cursor.new) }
 {
     if cursor.sees(TokenKind::Hash) {
-        cursor.take(TokenKind::Hash)?;
-        let value = identifier(alloc, cursor)?;
+        or_drop!(cursor.take(TokenKind::Hash); name);
+        let value = or_drop!(identifier(alloc, cursor); name);
         let node = node_at(name.node.start, value.node.end);
         return Ok(Point::Value(node, name, value));
     }
@@ -120,8 +120,8 @@ fn label_behind(alloc: Global, cursor: &mut Cursor<'_>, first: Point) -> Result<
     ensures { Reads (spec.label_behind first (view cursor.old)) result (view cursor.new) }
 {
     if cursor.sees(TokenKind::DotDot) {
-        cursor.take(TokenKind::DotDot)?;
-        let last = any_point(alloc, cursor)?;
+        or_drop!(cursor.take(TokenKind::DotDot); first);
+        let last = or_drop!(any_point(alloc, cursor); first);
         let end = end_of_point(&last);
         return Ok(label(first, Some(last), end));
     }
@@ -175,7 +175,7 @@ pub fn labels_behind(
 {
     let first = label_behind(alloc, cursor, first)?;
     let found = label_list(alloc, cursor, first)?;
-    cursor.take(TokenKind::Colon)?;
+    or_drop!(cursor.take(TokenKind::Colon); found);
     Ok(found)
 }
 

@@ -5,7 +5,7 @@ ghost use Rattle.token_grammar.specs.steps.Parsers.{Reads, ReadsTo, view};
 ghost use Rattle.st_statements.specs.steps.Parse as spec;
 ghost use Rattle.st_statements.specs.steps.ReadTrees as trees;
 
-use st_expr::{any_expression, identifier, located, node_at, parts, path};
+use st_expr::{any_expression, identifier, located, node_at, or_drop, parts, path};
 use st_tree::{Identifier, Node, Part, Path, Root, Stmt, StmtArgument};
 use std::alloc::Global;
 use token_grammar::{Cursor, ParseError, TokenKind};
@@ -57,12 +57,12 @@ fn argument(alloc: Global, cursor: &mut Cursor<'_>) -> Result<StmtArgument, Pars
     let start = cursor.start();
     let name = identifier(alloc, cursor)?;
     if cursor.sees(TokenKind::Becomes) {
-        cursor.take(TokenKind::Becomes)?;
-        let value = any_expression(alloc, cursor)?;
+        or_drop!(cursor.take(TokenKind::Becomes); name);
+        let value = or_drop!(any_expression(alloc, cursor); name);
         return Ok(StmtArgument::Input(node_at(start, cursor.last), name, value));
     }
-    cursor.take(TokenKind::Arrow)?;
-    let target = path(alloc, cursor)?;
+    or_drop!(cursor.take(TokenKind::Arrow); name);
+    let target = or_drop!(path(alloc, cursor); name);
     Ok(StmtArgument::Output(node_at(start, cursor.last), name, target))
 }
 
@@ -85,8 +85,9 @@ fn more_arguments(
 fn some_arguments(alloc: Global, cursor: &mut Cursor<'_>) -> Result<Items<StmtArgument>, ParseError>
     ensures { Reads (spec.some_arguments (view cursor.old)) result (view cursor.new) }
 {
+    let first = argument(alloc, cursor)?;
     let mut found = Items::new(alloc);
-    found.push(argument(alloc, cursor)?)?;
+    found.push(first)?;
     for _turn in 0..cursor.rest.len() {
         if !cursor.sees(TokenKind::Comma) {
             return Ok(found);
@@ -116,7 +117,7 @@ fn called(alloc: Global, cursor: &mut Cursor<'_>) -> Result<Items<StmtArgument>,
     let depth = cursor.depth;
     cursor.enter(TokenKind::OpenParenthesis)?;
     let found = arguments(alloc, cursor)?;
-    cursor.take(TokenKind::CloseParenthesis)?;
+    or_drop!(cursor.take(TokenKind::CloseParenthesis); found);
     cursor.depth = depth;
     Ok(found)
 }
@@ -126,8 +127,8 @@ fn called(alloc: Global, cursor: &mut Cursor<'_>) -> Result<Items<StmtArgument>,
 fn call_behind(alloc: Global, cursor: &mut Cursor<'_>, name: Identifier) -> Result<Stmt, ParseError>
     ensures { Reads (spec.call_behind name (view cursor.old)) result (view cursor.new) }
 {
-    let found = called(alloc, cursor)?;
-    let last = cursor.take(TokenKind::Semicolon)?;
+    let found = or_drop!(called(alloc, cursor); name);
+    let last = or_drop!(cursor.take(TokenKind::Semicolon); name, found);
     Ok(Stmt::Call(node_to(&name, last.end), name, found))
 }
 
@@ -140,10 +141,10 @@ fn assign_behind(
 ) -> Result<Stmt, ParseError>
     ensures { Reads (spec.assign_behind name (view cursor.old)) result (view cursor.new) }
 {
-    let found = parts(alloc, cursor)?;
-    cursor.take(TokenKind::Becomes)?;
-    let value = any_expression(alloc, cursor)?;
-    let last = cursor.take(TokenKind::Semicolon)?;
+    let found = or_drop!(parts(alloc, cursor); name);
+    or_drop!(cursor.take(TokenKind::Becomes); name, found);
+    let value = or_drop!(any_expression(alloc, cursor); name, found);
+    let last = or_drop!(cursor.take(TokenKind::Semicolon); name, found, value);
     let node = node_to(&name, last.end);
     Ok(Stmt::Assign(node, path_from(name, found), value))
 }
@@ -180,9 +181,9 @@ pub fn assign(alloc: Global, cursor: &mut Cursor<'_>) -> Result<Stmt, ParseError
 {
     let start = cursor.start();
     let target = located(alloc, cursor)?;
-    cursor.take(TokenKind::Becomes)?;
-    let value = any_expression(alloc, cursor)?;
-    cursor.take(TokenKind::Semicolon)?;
+    or_drop!(cursor.take(TokenKind::Becomes); target);
+    let value = or_drop!(any_expression(alloc, cursor); target);
+    or_drop!(cursor.take(TokenKind::Semicolon); target, value);
     Ok(Stmt::Assign(node_at(start, cursor.last), target, value))
 }
 

@@ -6,7 +6,7 @@ ghost use Rattle.st_statements.specs.steps.Parse as spec;
 ghost use Rattle.st_statements.specs.steps.Nests.{NestsStatements};
 
 use crate::statements::Block;
-use st_expr::{any_expression, identifier, node_at};
+use st_expr::{any_expression, identifier, node_at, or_drop};
 use st_tree::{Branch, Counter, Expr, Identifier, Stmt};
 use std::alloc::Global;
 use token_grammar::{Cursor, ParseError, TokenKind};
@@ -30,8 +30,8 @@ fn start(alloc: Global, cursor: &mut Cursor<'_>) -> Result<(Identifier, Boxed<Ex
     ensures { Reads (spec.start (view cursor.old)) result (view cursor.new) }
 {
     let name = identifier(alloc, cursor)?;
-    cursor.take(TokenKind::Becomes)?;
-    let first = any_expression(alloc, cursor)?;
+    or_drop!(cursor.take(TokenKind::Becomes); name);
+    let first = or_drop!(any_expression(alloc, cursor); name);
     Ok((name, first))
 }
 
@@ -41,9 +41,9 @@ fn counted_by(alloc: Global, cursor: &mut Cursor<'_>) -> Result<Boxed<Counter>, 
     ensures { Reads (spec.counter (view cursor.old)) result (view cursor.new) }
 {
     let (variable, first) = start(alloc, cursor)?;
-    cursor.take(TokenKind::To)?;
-    let last = any_expression(alloc, cursor)?;
-    let step = step(alloc, cursor)?;
+    or_drop!(cursor.take(TokenKind::To); variable, first);
+    let last = or_drop!(any_expression(alloc, cursor); variable, first);
+    let step = or_drop!(step(alloc, cursor); variable, first, last);
     let counter = Counter {
         variable,
         first,
@@ -61,8 +61,8 @@ impl<F: Fn(Global, &mut Cursor<'_>, usize) -> Result<Stmt, ParseError>> Block<F>
         ensures { Reads (spec.guarded (spec.nested self.now.nest) (view cursor.old)) result (view cursor.new) }
     {
         let condition = any_expression(self.alloc, cursor)?;
-        cursor.take(TokenKind::Then)?;
-        let body = self.body(cursor)?;
+        or_drop!(cursor.take(TokenKind::Then); condition);
+        let body = or_drop!(self.body(cursor); condition);
         Ok(Branch { condition, body })
     }
 
@@ -87,8 +87,9 @@ impl<F: Fn(Global, &mut Cursor<'_>, usize) -> Result<Stmt, ParseError>> Block<F>
         requires { NestsStatements self.now.nest (F.pre self.now.statement) (F.post self.now.statement) }
         ensures { Reads (spec.some_branches (spec.nested self.now.nest) (view cursor.old)) result (view cursor.new) }
     {
+        let first = self.guarded(cursor)?;
         let mut found = Items::new(self.alloc);
-        found.push(self.guarded(cursor)?)?;
+        found.push(first)?;
         for _turn in 0..cursor.rest.len() {
             if !cursor.sees(TokenKind::Elsif) {
                 return Ok(found);
@@ -108,8 +109,8 @@ impl<F: Fn(Global, &mut Cursor<'_>, usize) -> Result<Stmt, ParseError>> Block<F>
         let start = cursor.start();
         cursor.enter(TokenKind::If)?;
         let branches = self.some_branches(cursor)?;
-        let otherwise = self.otherwise(cursor)?;
-        cursor.take(TokenKind::EndIf)?;
+        let otherwise = or_drop!(self.otherwise(cursor); branches);
+        or_drop!(cursor.take(TokenKind::EndIf); branches, otherwise);
         cursor.depth = depth;
         Ok(Stmt::If(node_at(start, cursor.last), branches, otherwise))
     }
@@ -124,9 +125,9 @@ impl<F: Fn(Global, &mut Cursor<'_>, usize) -> Result<Stmt, ParseError>> Block<F>
         let start = cursor.start();
         cursor.enter(TokenKind::For)?;
         let counter = counted_by(self.alloc, cursor)?;
-        cursor.take(TokenKind::Do)?;
-        let body = self.body(cursor)?;
-        cursor.take(TokenKind::EndFor)?;
+        or_drop!(cursor.take(TokenKind::Do); counter);
+        let body = or_drop!(self.body(cursor); counter);
+        or_drop!(cursor.take(TokenKind::EndFor); counter, body);
         cursor.depth = depth;
         Ok(Stmt::For(node_at(start, cursor.last), counter, body))
     }
@@ -141,9 +142,9 @@ impl<F: Fn(Global, &mut Cursor<'_>, usize) -> Result<Stmt, ParseError>> Block<F>
         let start = cursor.start();
         cursor.enter(TokenKind::While)?;
         let condition = any_expression(self.alloc, cursor)?;
-        cursor.take(TokenKind::Do)?;
-        let body = self.body(cursor)?;
-        cursor.take(TokenKind::EndWhile)?;
+        or_drop!(cursor.take(TokenKind::Do); condition);
+        let body = or_drop!(self.body(cursor); condition);
+        or_drop!(cursor.take(TokenKind::EndWhile); condition, body);
         cursor.depth = depth;
         Ok(Stmt::While(node_at(start, cursor.last), condition, body))
     }
@@ -158,9 +159,9 @@ impl<F: Fn(Global, &mut Cursor<'_>, usize) -> Result<Stmt, ParseError>> Block<F>
         let start = cursor.start();
         cursor.enter(TokenKind::Repeat)?;
         let body = self.body(cursor)?;
-        cursor.take(TokenKind::Until)?;
-        let condition = any_expression(self.alloc, cursor)?;
-        cursor.take(TokenKind::EndRepeat)?;
+        or_drop!(cursor.take(TokenKind::Until); body);
+        let condition = or_drop!(any_expression(self.alloc, cursor); body);
+        or_drop!(cursor.take(TokenKind::EndRepeat); body, condition);
         cursor.depth = depth;
         Ok(Stmt::Repeat(node_at(start, cursor.last), body, condition))
     }
