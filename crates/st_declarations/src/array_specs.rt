@@ -8,7 +8,7 @@ ghost use Rattle.st_declarations.specs.steps.Parse as spec;
 ghost use Rattle.st_declarations.specs.steps.Nests.{Nests};
 
 use crate::type_names::{enumeration, plain_spec, ranges};
-use st_expr::{NEST, node_at};
+use st_expr::{NEST, node_at, or_drop};
 use st_tree::{Node, Range, Spec};
 use std::alloc::{AllocError, Global};
 use token_grammar::{Cursor, ParseError, TokenKind};
@@ -47,8 +47,8 @@ impl<F: Fn(Global, &mut Cursor<'_>, usize) -> Result<Spec, ParseError>> Specs<F>
         let depth = cursor.depth;
         cursor.enter(TokenKind::Array)?;
         let found = ranges(self.alloc, cursor)?;
-        cursor.take(TokenKind::Of)?;
-        let inner = (self.spec)(self.alloc, cursor, self.nest)?;
+        or_drop!(cursor.take(TokenKind::Of); found);
+        let inner = or_drop!((self.spec)(self.alloc, cursor, self.nest); found);
         cursor.depth = depth;
         let node = node_at(start, cursor.last);
         Ok(array_of(self.alloc, node, found, inner)?)

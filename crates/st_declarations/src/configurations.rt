@@ -6,7 +6,7 @@ ghost use Rattle.st_declarations.specs.steps.Parse as spec;
 
 use crate::declarations::GlobalsReader;
 use crate::lists::{Reader, commas, each};
-use st_expr::{any_expression, identifier, node_at};
+use st_expr::{any_expression, identifier, node_at, or_drop};
 use st_tree::{Config, Identifier, Parameter, ProgramLine, Resource, Task, Tasks};
 use std::alloc::Global;
 use token_grammar::{Cursor, ParseError, TokenKind};
@@ -26,8 +26,8 @@ impl Reader<Parameter> for ParameterReader {
     fn read(&self, alloc: Global, cursor: &mut Cursor<'_>) -> Result<Parameter, ParseError> {
         let start = cursor.start();
         let name = identifier(alloc, cursor)?;
-        cursor.take(TokenKind::Becomes)?;
-        let value = any_expression(alloc, cursor)?;
+        or_drop!(cursor.take(TokenKind::Becomes); name);
+        let value = or_drop!(any_expression(alloc, cursor); name);
         Ok(Parameter {
             node: node_at(start, cursor.last),
             name,
@@ -44,7 +44,7 @@ fn parameters(alloc: Global, cursor: &mut Cursor<'_>) -> Result<Items<Parameter>
     let depth = cursor.depth;
     cursor.enter(TokenKind::OpenParenthesis)?;
     let found = commas(alloc, cursor, &ParameterReader)?;
-    cursor.take(TokenKind::CloseParenthesis)?;
+    or_drop!(cursor.take(TokenKind::CloseParenthesis); found);
     cursor.depth = depth;
     Ok(found)
 }
@@ -64,8 +64,8 @@ impl Reader<Task> for TaskReader {
         let start = cursor.start();
         cursor.take(TokenKind::Task)?;
         let name = identifier(alloc, cursor)?;
-        let parameters = parameters(alloc, cursor)?;
-        cursor.take(TokenKind::Semicolon)?;
+        let parameters = or_drop!(parameters(alloc, cursor); name);
+        or_drop!(cursor.take(TokenKind::Semicolon); name, parameters);
         Ok(Task {
             node: node_at(start, cursor.last),
             name,
@@ -110,10 +110,10 @@ impl Reader<ProgramLine> for ProgramLineReader {
         let start = cursor.start();
         cursor.take(TokenKind::Program)?;
         let name = identifier(alloc, cursor)?;
-        let task = optional_task(alloc, cursor)?;
-        cursor.take(TokenKind::Colon)?;
-        let program = identifier(alloc, cursor)?;
-        cursor.take(TokenKind::Semicolon)?;
+        let task = or_drop!(optional_task(alloc, cursor); name);
+        or_drop!(cursor.take(TokenKind::Colon); name, task);
+        let program = or_drop!(identifier(alloc, cursor); name, task);
+        or_drop!(cursor.take(TokenKind::Semicolon); name, task, program);
         Ok(ProgramLine {
             node: node_at(start, cursor.last),
             name,
@@ -129,7 +129,7 @@ fn tasks(alloc: Global, cursor: &mut Cursor<'_>) -> Result<Tasks, ParseError>
     ensures { Reads (spec.tasks (view cursor.old)) result (view cursor.new) }
 {
     let tasks = each(alloc, cursor, TokenKind::Task, &TaskReader)?;
-    let lines = each(alloc, cursor, TokenKind::Program, &ProgramLineReader)?;
+    let lines = or_drop!(each(alloc, cursor, TokenKind::Program, &ProgramLineReader); tasks);
     Ok(Tasks { tasks, lines })
 }
 
@@ -148,11 +148,12 @@ impl Reader<Resource> for ResourceReader {
         let start = cursor.start();
         cursor.take(TokenKind::Resource)?;
         let name = identifier(alloc, cursor)?;
-        cursor.take(TokenKind::On)?;
-        let kind = identifier(alloc, cursor)?;
-        let globals = each(alloc, cursor, TokenKind::VarGlobal, &GlobalsReader)?;
-        let tasks = tasks(alloc, cursor)?;
-        cursor.take(TokenKind::EndResource)?;
+        or_drop!(cursor.take(TokenKind::On); name);
+        let kind = or_drop!(identifier(alloc, cursor); name);
+        let globals =
+            or_drop!(each(alloc, cursor, TokenKind::VarGlobal, &GlobalsReader); name, kind);
+        let tasks = or_drop!(tasks(alloc, cursor); name, kind, globals);
+        or_drop!(cursor.take(TokenKind::EndResource); name, kind, globals, tasks);
         Ok(Resource {
             node: node_at(start, cursor.last),
             name,
@@ -171,10 +172,11 @@ pub fn config(alloc: Global, cursor: &mut Cursor<'_>) -> Result<Config, ParseErr
     let start = cursor.start();
     cursor.take(TokenKind::Configuration)?;
     let name = identifier(alloc, cursor)?;
-    let globals = each(alloc, cursor, TokenKind::VarGlobal, &GlobalsReader)?;
-    let resources = each(alloc, cursor, TokenKind::Resource, &ResourceReader)?;
-    let tasks = tasks(alloc, cursor)?;
-    cursor.take(TokenKind::EndConfiguration)?;
+    let globals = or_drop!(each(alloc, cursor, TokenKind::VarGlobal, &GlobalsReader); name);
+    let resources =
+        or_drop!(each(alloc, cursor, TokenKind::Resource, &ResourceReader); name, globals);
+    let tasks = or_drop!(tasks(alloc, cursor); name, globals, resources);
+    or_drop!(cursor.take(TokenKind::EndConfiguration); name, globals, resources, tasks);
     Ok(Config {
         node: node_at(start, cursor.last),
         name,

@@ -7,7 +7,7 @@ ghost use Rattle.st_declarations.specs.steps.Parse as spec;
 use crate::array_specs::spec;
 use crate::initial_values::optional_init;
 use crate::lists::{Reader, each, more};
-use st_expr::{address, name_list, node_at};
+use st_expr::{address, name_list, node_at, or_drop};
 use st_tree::{Address, Decl, Globals, Keep, Section, SectionKind};
 use std::alloc::Global;
 use token_grammar::{Cursor, ParseError, TokenKind};
@@ -48,11 +48,11 @@ impl Reader<Decl> for DeclReader {
     fn read(&self, alloc: Global, cursor: &mut Cursor<'_>) -> Result<Decl, ParseError> {
         let start = cursor.start();
         let names = name_list(alloc, cursor)?;
-        let address = optional_address(alloc, cursor)?;
-        cursor.take(TokenKind::Colon)?;
-        let spec = spec(alloc, cursor)?;
-        let init = optional_init(alloc, cursor)?;
-        cursor.take(TokenKind::Semicolon)?;
+        let address = or_drop!(optional_address(alloc, cursor); names);
+        or_drop!(cursor.take(TokenKind::Colon); names, address);
+        let spec = or_drop!(spec(alloc, cursor); names, address);
+        let init = or_drop!(optional_init(alloc, cursor); names, address, spec);
+        or_drop!(cursor.take(TokenKind::Semicolon); names, address, spec, init);
         Ok(Decl {
             node: node_at(start, cursor.last),
             names,
@@ -147,7 +147,7 @@ impl Reader<Section> for SectionReader {
         let kind = section_word(cursor)?;
         let keep = keep(cursor)?;
         let decls = each(alloc, cursor, TokenKind::Name, &DeclReader)?;
-        cursor.take(TokenKind::EndVar)?;
+        or_drop!(cursor.take(TokenKind::EndVar); decls);
         Ok(Section {
             node: node_at(start, cursor.last),
             kind,
@@ -181,7 +181,7 @@ pub fn globals(alloc: Global, cursor: &mut Cursor<'_>) -> Result<Globals, ParseE
     cursor.take(TokenKind::VarGlobal)?;
     let keep = keep(cursor)?;
     let decls = each(alloc, cursor, TokenKind::Name, &DeclReader)?;
-    cursor.take(TokenKind::EndVar)?;
+    or_drop!(cursor.take(TokenKind::EndVar); decls);
     Ok(Globals {
         node: node_at(start, cursor.last),
         keep,

@@ -8,7 +8,7 @@ ghost use Rattle.st_declarations.specs.steps.Parse as spec;
 ghost use Rattle.st_declarations.specs.steps.Nests.{Nests};
 
 use crate::lists::{Reader, commas};
-use st_expr::{NEST, any_expression, identifier, node_at, word};
+use st_expr::{NEST, any_expression, identifier, node_at, or_drop, word};
 use st_tree::{FieldInit, Init, Item};
 use std::alloc::Global;
 use token_grammar::{Cursor, ParseError, TokenKind};
@@ -58,9 +58,9 @@ impl<F: Fn(Global, &mut Cursor<'_>, usize) -> Result<Init, ParseError>> Values<F
         let start = cursor.start();
         let count = word(self.alloc, cursor, TokenKind::Number)?;
         let depth = cursor.depth;
-        cursor.enter(TokenKind::OpenParenthesis)?;
-        let value = self.value(cursor)?;
-        cursor.take(TokenKind::CloseParenthesis)?;
+        or_drop!(cursor.enter(TokenKind::OpenParenthesis); count);
+        let value = or_drop!(self.value(cursor); count);
+        or_drop!(cursor.take(TokenKind::CloseParenthesis); count, value);
         cursor.depth = depth;
         Ok(Item::Repeated(node_at(start, cursor.last), count, value))
     }
@@ -90,7 +90,7 @@ impl<F: Fn(Global, &mut Cursor<'_>, usize) -> Result<Init, ParseError>> Values<F
         let depth = cursor.depth;
         cursor.enter(TokenKind::OpenBracket)?;
         let found: Items<Item> = commas(self.alloc, cursor, self)?;
-        cursor.take(TokenKind::CloseBracket)?;
+        or_drop!(cursor.take(TokenKind::CloseBracket); found);
         cursor.depth = depth;
         Ok(Init::Array(node_at(start, cursor.last), found))
     }
@@ -104,8 +104,8 @@ impl<F: Fn(Global, &mut Cursor<'_>, usize) -> Result<Init, ParseError>> Values<F
     {
         let start = cursor.start();
         let name = identifier(self.alloc, cursor)?;
-        cursor.take(TokenKind::Becomes)?;
-        let value = self.value(cursor)?;
+        or_drop!(cursor.take(TokenKind::Becomes); name);
+        let value = or_drop!(self.value(cursor); name);
         Ok(FieldInit {
             node: node_at(start, cursor.last),
             name,
@@ -124,7 +124,7 @@ impl<F: Fn(Global, &mut Cursor<'_>, usize) -> Result<Init, ParseError>> Values<F
         let depth = cursor.depth;
         cursor.enter(TokenKind::OpenParenthesis)?;
         let found: Items<FieldInit> = commas(self.alloc, cursor, self)?;
-        cursor.take(TokenKind::CloseParenthesis)?;
+        or_drop!(cursor.take(TokenKind::CloseParenthesis); found);
         cursor.depth = depth;
         Ok(Init::Structure(node_at(start, cursor.last), found))
     }

@@ -59,7 +59,7 @@ pub fn each<T: Drop, R: Reader<T>>(
 }
 
 /// `"," one`
-#[tactic(auto, unfolding(crate::specs::steps::Parse::more_behind))]
+#[tactic(auto, unfolding(crate::specs::steps::Parse::more_behind, crate::specs::steps::Parse::more))]
 fn more_behind<T: Drop, R: Reader<T>>(
     alloc: Global,
     cursor: &mut Cursor<'_>,
@@ -71,12 +71,11 @@ fn more_behind<T: Drop, R: Reader<T>>(
         found.new (view cursor.new) }
 {
     cursor.take(TokenKind::Comma)?;
-    found.push(reader.read(alloc, cursor)?)?;
-    Ok(())
+    more(alloc, cursor, reader, found)
 }
 
 /// `one { "," one }`
-#[tactic(auto, unfolding(crate::specs::steps::Parse::commas))]
+#[tactic(auto, unfolding(crate::specs::steps::Parse::commas, crate::specs::steps::Parse::more))]
 pub fn commas<T: Drop, R: Reader<T>>(
     alloc: Global,
     cursor: &mut Cursor<'_>,
@@ -86,7 +85,7 @@ pub fn commas<T: Drop, R: Reader<T>>(
     ensures { Reads (spec.commas (R.parser reader.now) (view cursor.old)) result (view cursor.new) }
 {
     let mut found = Items::new(alloc);
-    found.push(reader.read(alloc, cursor)?)?;
+    more(alloc, cursor, reader, &mut found)?;
     for _turn in 0..cursor.rest.len() {
         if !cursor.sees(TokenKind::Comma) {
             return Ok(found);

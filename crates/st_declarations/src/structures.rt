@@ -7,7 +7,7 @@ ghost use Rattle.st_declarations.specs.steps.Parse as spec;
 use crate::array_specs::spec;
 use crate::initial_values::optional_init;
 use crate::lists::{Reader, each};
-use st_expr::{identifier, name_list, node_at};
+use st_expr::{identifier, name_list, node_at, or_drop};
 use st_tree::{Fields, Shape, TypeDecl, Types};
 use std::alloc::Global;
 use token_grammar::{Cursor, ParseError, TokenKind};
@@ -26,10 +26,10 @@ impl Reader<Fields> for FieldsReader {
     fn read(&self, alloc: Global, cursor: &mut Cursor<'_>) -> Result<Fields, ParseError> {
         let start = cursor.start();
         let names = name_list(alloc, cursor)?;
-        cursor.take(TokenKind::Colon)?;
-        let spec = spec(alloc, cursor)?;
-        let init = optional_init(alloc, cursor)?;
-        cursor.take(TokenKind::Semicolon)?;
+        or_drop!(cursor.take(TokenKind::Colon); names);
+        let spec = or_drop!(spec(alloc, cursor); names);
+        let init = or_drop!(optional_init(alloc, cursor); names, spec);
+        or_drop!(cursor.take(TokenKind::Semicolon); names, spec, init);
         Ok(Fields {
             node: node_at(start, cursor.last),
             names,
@@ -47,7 +47,7 @@ fn struct_shape(alloc: Global, cursor: &mut Cursor<'_>) -> Result<Shape, ParseEr
     let start = cursor.start();
     cursor.take(TokenKind::Struct)?;
     let found = each(alloc, cursor, TokenKind::Name, &FieldsReader)?;
-    cursor.take(TokenKind::EndStruct)?;
+    or_drop!(cursor.take(TokenKind::EndStruct); found);
     Ok(Shape::Structure(node_at(start, cursor.last), found))
 }
 
@@ -77,10 +77,10 @@ impl Reader<TypeDecl> for TypeDeclReader {
     fn read(&self, alloc: Global, cursor: &mut Cursor<'_>) -> Result<TypeDecl, ParseError> {
         let start = cursor.start();
         let name = identifier(alloc, cursor)?;
-        cursor.take(TokenKind::Colon)?;
-        let shape = shape(alloc, cursor)?;
-        let init = optional_init(alloc, cursor)?;
-        cursor.take(TokenKind::Semicolon)?;
+        or_drop!(cursor.take(TokenKind::Colon); name);
+        let shape = or_drop!(shape(alloc, cursor); name);
+        let init = or_drop!(optional_init(alloc, cursor); name, shape);
+        or_drop!(cursor.take(TokenKind::Semicolon); name, shape, init);
         Ok(TypeDecl {
             node: node_at(start, cursor.last),
             name,
@@ -98,7 +98,7 @@ pub fn types(alloc: Global, cursor: &mut Cursor<'_>) -> Result<Types, ParseError
     let start = cursor.start();
     cursor.take(TokenKind::Type)?;
     let decls = each(alloc, cursor, TokenKind::Name, &TypeDeclReader)?;
-    cursor.take(TokenKind::EndType)?;
+    or_drop!(cursor.take(TokenKind::EndType); decls);
     Ok(Types {
         node: node_at(start, cursor.last),
         decls,

@@ -6,7 +6,7 @@ ghost use Rattle.st_declarations.specs.steps.Parse as spec;
 
 use crate::lists::{Reader, commas};
 use iec_tables::elem::Elem;
-use st_expr::{any_expression, identifier, name_list, node_at};
+use st_expr::{any_expression, identifier, name_list, node_at, or_drop};
 use st_tree::{Range, Spec, TypeName};
 use std::alloc::Global;
 use token_grammar::{Cursor, ParseError, TokenKind};
@@ -95,8 +95,8 @@ fn range(alloc: Global, cursor: &mut Cursor<'_>) -> Result<Range, ParseError>
 {
     let start = cursor.start();
     let lower = any_expression(alloc, cursor)?;
-    cursor.take(TokenKind::DotDot)?;
-    let upper = any_expression(alloc, cursor)?;
+    or_drop!(cursor.take(TokenKind::DotDot); lower);
+    let upper = or_drop!(any_expression(alloc, cursor); lower);
     Ok(Range {
         node: node_at(start, cursor.last),
         lower,
@@ -112,7 +112,7 @@ fn bounds(alloc: Global, cursor: &mut Cursor<'_>) -> Result<Option<Range>, Parse
     let depth = cursor.depth;
     cursor.enter(TokenKind::OpenParenthesis)?;
     let found = range(alloc, cursor)?;
-    cursor.take(TokenKind::CloseParenthesis)?;
+    or_drop!(cursor.take(TokenKind::CloseParenthesis); found);
     cursor.depth = depth;
     Ok(Some(found))
 }
@@ -136,7 +136,7 @@ pub fn plain_spec(alloc: Global, cursor: &mut Cursor<'_>) -> Result<Spec, ParseE
 {
     let start = cursor.start();
     let name = typename(alloc, cursor)?;
-    let found = optional_bounds(alloc, cursor)?;
+    let found = or_drop!(optional_bounds(alloc, cursor); name);
     Ok(Spec::Type(node_at(start, cursor.last), name, found))
 }
 
@@ -149,7 +149,7 @@ pub fn enumeration(alloc: Global, cursor: &mut Cursor<'_>) -> Result<Spec, Parse
     let depth = cursor.depth;
     cursor.enter(TokenKind::OpenParenthesis)?;
     let found = name_list(alloc, cursor)?;
-    cursor.take(TokenKind::CloseParenthesis)?;
+    or_drop!(cursor.take(TokenKind::CloseParenthesis); found);
     cursor.depth = depth;
     Ok(Spec::Enumeration(node_at(start, cursor.last), found))
 }
@@ -177,7 +177,7 @@ pub fn ranges(alloc: Global, cursor: &mut Cursor<'_>) -> Result<Items<Range>, Pa
     let depth = cursor.depth;
     cursor.enter(TokenKind::OpenBracket)?;
     let found = commas(alloc, cursor, &RangeReader)?;
-    cursor.take(TokenKind::CloseBracket)?;
+    or_drop!(cursor.take(TokenKind::CloseBracket); found);
     cursor.depth = depth;
     Ok(found)
 }

@@ -3,11 +3,11 @@ use Rattle.std.proofs.lemmas.Grind.{common_steps}
 use Rattle.token_grammar.specs.steps.Parsers.{view, loop, repeated, sees_in}
 use Rattle.token_grammar.proofs.Turns.{one_more, no_more}
 use Rattle.token_grammar.specs.declared.token.TokenKind.TheVariants as k
-use Rattle.st_declarations.specs.steps.Parse.{commas, more_behind}
+use Rattle.st_declarations.specs.steps.Parse.{commas, more, more_behind}
 use Rattle.st_declarations.proofs.lists.commas.Goals as goal
 
 pub loop-turn-init : goal.loop-turn-init
-unfolding commas repeated
+unfolding commas repeated more
 loop-turn-init g c = first_of (search rules, grind (arith, common_steps))
 
 pub returns-then-not-sees : goal.returns-then-not-sees
