@@ -6,7 +6,7 @@ ghost use Rattle.st_units.specs.steps.Parse as spec;
 
 use sfc_text::sfc;
 use st_declarations::{Reader, config, globals, more, sections, typename, types};
-use st_expr::{identifier, node_at};
+use st_expr::{identifier, node_at, or_drop};
 use st_statements::statement_list;
 use st_tree::{Body, FilePart, Unit, UnitKind};
 use std::alloc::Global;
@@ -49,11 +49,11 @@ fn function(alloc: Global, cursor: &mut Cursor<'_>) -> Result<Unit, ParseError>
     let start = cursor.start();
     cursor.take(TokenKind::Function)?;
     let name = identifier(alloc, cursor)?;
-    cursor.take(TokenKind::Colon)?;
-    let kind = typename(alloc, cursor)?;
-    let sections = sections(alloc, cursor)?;
-    let body = body(alloc, cursor)?;
-    cursor.take(TokenKind::EndFunction)?;
+    or_drop!(cursor.take(TokenKind::Colon); name);
+    let kind = or_drop!(typename(alloc, cursor); name);
+    let sections = or_drop!(sections(alloc, cursor); name, kind);
+    let body = or_drop!(body(alloc, cursor); name, kind, sections);
+    or_drop!(cursor.take(TokenKind::EndFunction); name, kind, sections, body);
     Ok(Unit {
         node: node_at(start, cursor.last),
         kind: UnitKind::Function(kind),
@@ -71,9 +71,9 @@ fn block(alloc: Global, cursor: &mut Cursor<'_>) -> Result<Unit, ParseError>
     let start = cursor.start();
     cursor.take(TokenKind::FunctionBlock)?;
     let name = identifier(alloc, cursor)?;
-    let sections = sections(alloc, cursor)?;
-    let body = body(alloc, cursor)?;
-    cursor.take(TokenKind::EndFunctionBlock)?;
+    let sections = or_drop!(sections(alloc, cursor); name);
+    let body = or_drop!(body(alloc, cursor); name, sections);
+    or_drop!(cursor.take(TokenKind::EndFunctionBlock); name, sections, body);
     Ok(Unit {
         node: node_at(start, cursor.last),
         kind: UnitKind::Block,
@@ -91,9 +91,9 @@ fn program(alloc: Global, cursor: &mut Cursor<'_>) -> Result<Unit, ParseError>
     let start = cursor.start();
     cursor.take(TokenKind::Program)?;
     let name = identifier(alloc, cursor)?;
-    let sections = sections(alloc, cursor)?;
-    let body = body(alloc, cursor)?;
-    cursor.take(TokenKind::EndProgram)?;
+    let sections = or_drop!(sections(alloc, cursor); name);
+    let body = or_drop!(body(alloc, cursor); name, sections);
+    or_drop!(cursor.take(TokenKind::EndProgram); name, sections, body);
     Ok(Unit {
         node: node_at(start, cursor.last),
         kind: UnitKind::Program,
@@ -193,6 +193,6 @@ pub fn file(alloc: Global, cursor: &mut Cursor<'_>) -> Result<Items<FilePart>, P
     ensures { Reads (spec.file (view cursor.old)) result (view cursor.new) }
 {
     let found = parts(alloc, cursor)?;
-    ended(cursor)?;
+    or_drop!(ended(cursor); found);
     Ok(found)
 }

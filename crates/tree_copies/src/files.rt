@@ -211,15 +211,17 @@ impl Copied for Comment {
 
 impl Copied for SourceTree {
     fn copy(&self, alloc: Global) -> Result<Self, NoMemory> {
-        let (units, types, globals) = three(
-            self.units.copy(alloc),
-            self.types.copy(alloc),
-            self.globals.copy(alloc),
-        )?;
-        let (config, comments, feeds) = three(
-            self.config.copy(alloc),
-            self.comments.copy(alloc),
-            self.feeds.copy(alloc),
+        let ((units, types, globals), (config, comments, feeds)) = both(
+            three(
+                self.units.copy(alloc),
+                self.types.copy(alloc),
+                self.globals.copy(alloc),
+            ),
+            three(
+                self.config.copy(alloc),
+                self.comments.copy(alloc),
+                self.feeds.copy(alloc),
+            ),
         )?;
         Ok(SourceTree {
             units,

@@ -24,7 +24,8 @@ pub(crate) fn three<A: Drop, B: Drop, C: Drop>(
 ) -> Result<(A, B, C), NoMemory>
     ensures { IfOk result (λ t. (first ≡ Ok t.0) × (second ≡ Ok t.1) × (third ≡ Ok t.2)) }
 {
-    Ok((first?, second?, third?))
+    let (first, (second, third)) = both(first, both(second, third))?;
+    Ok((first, second, third))
 }
 
 /// The four values, where all are there.
@@ -37,7 +38,8 @@ pub(crate) fn four<A: Drop, B: Drop, C: Drop, D: Drop>(
     ensures { IfOk result (λ t.
         (first ≡ Ok t.0) × (second ≡ Ok t.1) × (third ≡ Ok t.2) × (fourth ≡ Ok t.3)) }
 {
-    Ok((first?, second?, third?, fourth?))
+    let ((first, second), (third, fourth)) = both(both(first, second), both(third, fourth))?;
+    Ok((first, second, third, fourth))
 }
 
 /// The value in a box of its own.

@@ -1,7 +1,7 @@
 // The nodes of sequential function charts.
 
 use crate::expressions::number_in_expr;
-use crate::numbered::{Numbered, number_each, number_option};
+use crate::numbered::{Numbered, number_each, number_option, number_two};
 use crate::numbers::Counting;
 use crate::statements::number_in_stmts;
 use st_tree::{Action, Association, Sfc, SfcPart, Step, StepNames, Transition};
@@ -13,8 +13,7 @@ impl Numbered for Association {
     ghost counted = { counted_association };
 
     fn number(&mut self, counting: &mut Counting<'_>) -> Result<(), NoMemory> {
-        counting.number(&mut self.node)?;
-        self.action.number(counting)?;
+        number_two(&mut self.node, &mut self.action, counting)?;
         number_option(&mut self.qualifier, counting)
     }
 }
@@ -25,8 +24,7 @@ impl Numbered for Step {
     ghost counted = { counted_step };
 
     fn number(&mut self, counting: &mut Counting<'_>) -> Result<(), NoMemory> {
-        counting.number(&mut self.node)?;
-        self.name.number(counting)?;
+        number_two(&mut self.node, &mut self.name, counting)?;
         number_each(&mut self.associations, counting)
     }
 }
@@ -67,8 +65,7 @@ impl Numbered for Action {
     ghost counted = { counted_action };
 
     fn number(&mut self, counting: &mut Counting<'_>) -> Result<(), NoMemory> {
-        counting.number(&mut self.node)?;
-        self.name.number(counting)?;
+        number_two(&mut self.node, &mut self.name, counting)?;
         number_in_stmts(&mut self.body, counting)
     }
 }
@@ -93,8 +90,7 @@ impl Numbered for Sfc {
     ghost counted = { counted_sfc };
 
     fn number(&mut self, counting: &mut Counting<'_>) -> Result<(), NoMemory> {
-        counting.number(&mut self.node)?;
-        self.initial.number(counting)?;
+        number_two(&mut self.node, &mut self.initial, counting)?;
         number_each(&mut self.parts, counting)
     }
 }

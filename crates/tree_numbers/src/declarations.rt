@@ -5,7 +5,7 @@ ghost use Rattle.tree_numbers.specs.steps.Turns.{each};
 ghost use Rattle.tree_numbers.specs.steps.Counted.{counted_spec, counted_init, counted_item, counted_field};
 
 use crate::expressions::number_in_expr;
-use crate::numbered::{Numbered, number_each, number_option};
+use crate::numbered::{Numbered, number_each, number_option, number_three, number_two};
 use crate::numbers::Counting;
 use st_tree::{Decl, FieldInit, Init, Item, Range, Section, Spec, TypeName};
 use station_ports::outside::NoMemory;
@@ -29,9 +29,7 @@ impl Numbered for Range {
     ghost counted = { counted_range };
 
     fn number(&mut self, counting: &mut Counting<'_>) -> Result<(), NoMemory> {
-        counting.number(&mut self.node)?;
-        self.lower.number(counting)?;
-        self.upper.number(counting)
+        number_three(&mut self.node, &mut self.lower, &mut self.upper, counting)
     }
 }
 
@@ -43,8 +41,7 @@ pub(crate) fn number_in_spec(tree: &mut Spec, counting: &mut Counting<'_>) -> Re
 {
     match tree {
         Spec::Type(node, name, limits) => {
-            counting.number(node)?;
-            name.number(counting)?;
+            number_two(node, name, counting)?;
             number_option(limits, counting)
         }
         Spec::Enumeration(node, values) => {

@@ -4,7 +4,7 @@ ghost use Rattle.std.specs.Prelude.{◌≡◌, map, OnOk};
 ghost use Rattle.tree_numbers.specs.steps.Turns.{each};
 ghost use Rattle.tree_numbers.specs.steps.Counted.{counted_expr, counted_part, counted_argument, counted_path};
 
-use crate::numbered::{Numbered, number_option};
+use crate::numbered::{Numbered, number_option, number_three, number_two};
 use crate::numbers::Counting;
 use st_tree::{Address, Argument, Expr, Identifier, Part, Path, Root};
 use station_ports::outside::NoMemory;
@@ -54,11 +54,7 @@ pub(crate) fn number_in_expr(tree: &mut Expr, counting: &mut Counting<'_>) -> Re
         Expr::Time(node, _) => counting.number(node),
         Expr::Truth(node, _) => counting.number(node),
         Expr::Path(path) => number_in_path(path, counting),
-        Expr::Value(node, name, value) => {
-            counting.number(node)?;
-            name.number(counting)?;
-            value.number(counting)
-        }
+        Expr::Value(node, name, value) => number_three(node, name, value, counting),
         Expr::Parenthesized(node, inner) => {
             counting.number(node)?;
             number_in_expr(inner.get_mut(), counting)
@@ -73,8 +69,7 @@ pub(crate) fn number_in_expr(tree: &mut Expr, counting: &mut Counting<'_>) -> Re
             number_in_expr(right.get_mut(), counting)
         }
         Expr::Call(node, name, arguments) => {
-            counting.number(node)?;
-            name.number(counting)?;
+            number_two(node, name, counting)?;
             number_in_arguments(arguments.as_mut_slice(), counting)
         }
     }
@@ -148,6 +143,16 @@ fn number_in_arguments(trees: &mut [Argument], counting: &mut Counting<'_>) -> R
         number_in_argument(&mut trees[i], counting)?;
     }
     Ok(())
+}
+
+impl Numbered for Path {
+    ghost use Rattle.tree_numbers.specs.steps.Counted.{counted_path};
+
+    ghost counted = { counted_path };
+
+    fn number(&mut self, counting: &mut Counting<'_>) -> Result<(), NoMemory> {
+        number_in_path(self, counting)
+    }
 }
 
 impl Numbered for Expr {

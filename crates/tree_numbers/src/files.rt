@@ -2,7 +2,7 @@
 
 use crate::declarations::number_in_spec;
 use crate::expressions::number_in_expr;
-use crate::numbered::{Numbered, number_each, number_option};
+use crate::numbered::{Numbered, number_each, number_option, number_three, number_two};
 use crate::numbers::Counting;
 use crate::statements::number_in_stmts;
 use st_tree::{
@@ -44,9 +44,7 @@ impl Numbered for Unit {
     ghost counted = { counted_unit };
 
     fn number(&mut self, counting: &mut Counting<'_>) -> Result<(), NoMemory> {
-        counting.number(&mut self.node)?;
-        self.name.number(counting)?;
-        self.kind.number(counting)?;
+        number_three(&mut self.node, &mut self.name, &mut self.kind, counting)?;
         number_each(&mut self.sections, counting)?;
         self.body.number(counting)
     }
@@ -87,9 +85,7 @@ impl Numbered for TypeDecl {
     ghost counted = { counted_type_decl };
 
     fn number(&mut self, counting: &mut Counting<'_>) -> Result<(), NoMemory> {
-        counting.number(&mut self.node)?;
-        self.name.number(counting)?;
-        self.shape.number(counting)?;
+        number_three(&mut self.node, &mut self.name, &mut self.shape, counting)?;
         number_option(&mut self.init, counting)
     }
 }
@@ -122,9 +118,7 @@ impl Numbered for Parameter {
     ghost counted = { counted_parameter };
 
     fn number(&mut self, counting: &mut Counting<'_>) -> Result<(), NoMemory> {
-        counting.number(&mut self.node)?;
-        self.name.number(counting)?;
-        self.value.number(counting)
+        number_three(&mut self.node, &mut self.name, &mut self.value, counting)
     }
 }
 
@@ -134,8 +128,7 @@ impl Numbered for Task {
     ghost counted = { counted_task };
 
     fn number(&mut self, counting: &mut Counting<'_>) -> Result<(), NoMemory> {
-        counting.number(&mut self.node)?;
-        self.name.number(counting)?;
+        number_two(&mut self.node, &mut self.name, counting)?;
         number_each(&mut self.parameters, counting)
     }
 }
@@ -146,8 +139,7 @@ impl Numbered for ProgramLine {
     ghost counted = { counted_program_line };
 
     fn number(&mut self, counting: &mut Counting<'_>) -> Result<(), NoMemory> {
-        counting.number(&mut self.node)?;
-        self.name.number(counting)?;
+        number_two(&mut self.node, &mut self.name, counting)?;
         number_option(&mut self.task, counting)?;
         self.program.number(counting)
     }
@@ -170,9 +162,7 @@ impl Numbered for Resource {
     ghost counted = { counted_resource };
 
     fn number(&mut self, counting: &mut Counting<'_>) -> Result<(), NoMemory> {
-        counting.number(&mut self.node)?;
-        self.name.number(counting)?;
-        self.kind.number(counting)?;
+        number_three(&mut self.node, &mut self.name, &mut self.kind, counting)?;
         number_each(&mut self.globals, counting)?;
         self.tasks.number(counting)
     }
@@ -184,8 +174,7 @@ impl Numbered for Config {
     ghost counted = { counted_config };
 
     fn number(&mut self, counting: &mut Counting<'_>) -> Result<(), NoMemory> {
-        counting.number(&mut self.node)?;
-        self.name.number(counting)?;
+        number_two(&mut self.node, &mut self.name, counting)?;
         number_each(&mut self.globals, counting)?;
         number_each(&mut self.resources, counting)?;
         self.tasks.number(counting)

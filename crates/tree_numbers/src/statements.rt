@@ -4,8 +4,8 @@ ghost use Rattle.std.specs.Prelude.{◌≡◌, map, OnOk};
 ghost use Rattle.tree_numbers.specs.steps.Turns.{each};
 ghost use Rattle.tree_numbers.specs.steps.Counted.{counted_stmt, counted_branch, counted_case};
 
-use crate::expressions::{number_in_expr, number_in_path};
-use crate::numbered::{Numbered, number_each, number_option};
+use crate::expressions::number_in_expr;
+use crate::numbered::{Numbered, number_each, number_option, number_three, number_two};
 use crate::numbers::Counting;
 use st_tree::{Branch, Case, Counter, Label, Point, Stmt, StmtArgument};
 use station_ports::outside::NoMemory;
@@ -21,11 +21,7 @@ impl Numbered for Point {
             Point::Number(node, _, _) => counting.number(node),
             Point::Typed(node, _) => counting.number(node),
             Point::Name(name) => name.number(counting),
-            Point::Value(node, name, value) => {
-                counting.number(node)?;
-                name.number(counting)?;
-                value.number(counting)
-            }
+            Point::Value(node, name, value) => number_three(node, name, value, counting),
         }
     }
 }
@@ -36,8 +32,7 @@ impl Numbered for Label {
     ghost counted = { counted_label };
 
     fn number(&mut self, counting: &mut Counting<'_>) -> Result<(), NoMemory> {
-        counting.number(&mut self.node)?;
-        self.first.number(counting)?;
+        number_two(&mut self.node, &mut self.first, counting)?;
         number_option(&mut self.last, counting)
     }
 }
@@ -49,16 +44,8 @@ impl Numbered for StmtArgument {
 
     fn number(&mut self, counting: &mut Counting<'_>) -> Result<(), NoMemory> {
         match self {
-            StmtArgument::Input(node, name, value) => {
-                counting.number(node)?;
-                name.number(counting)?;
-                value.number(counting)
-            }
-            StmtArgument::Output(node, name, target) => {
-                counting.number(node)?;
-                name.number(counting)?;
-                number_in_path(target, counting)
-            }
+            StmtArgument::Input(node, name, value) => number_three(node, name, value, counting),
+            StmtArgument::Output(node, name, target) => number_three(node, name, target, counting),
         }
     }
 }
@@ -83,14 +70,9 @@ pub(crate) fn number_in_stmt(tree: &mut Stmt, counting: &mut Counting<'_>) -> Re
     ensures rest { OnOk result (counting.new ≡ (counted_stmt tree.old counting.old).1) }
 {
     match tree {
-        Stmt::Assign(node, target, value) => {
-            counting.number(node)?;
-            number_in_path(target, counting)?;
-            number_in_expr(value.get_mut(), counting)
-        }
+        Stmt::Assign(node, target, value) => number_three(node, target, value, counting),
         Stmt::Call(node, name, arguments) => {
-            counting.number(node)?;
-            name.number(counting)?;
+            number_two(node, name, counting)?;
             number_each(arguments, counting)
         }
         Stmt::Return(node) => counting.number(node),
@@ -105,8 +87,7 @@ pub(crate) fn number_in_stmt(tree: &mut Stmt, counting: &mut Counting<'_>) -> Re
             }
         }
         Stmt::Case(node, selector, cases, otherwise) => {
-            counting.number(node)?;
-            number_in_expr(selector.get_mut(), counting)?;
+            number_two(node, selector, counting)?;
             number_in_cases(cases, counting)?;
             match otherwise {
                 None => Ok(()),
@@ -114,13 +95,11 @@ pub(crate) fn number_in_stmt(tree: &mut Stmt, counting: &mut Counting<'_>) -> Re
             }
         }
         Stmt::For(node, counter, body) => {
-            counting.number(node)?;
-            counter.get_mut().number(counting)?;
+            number_two(node, counter, counting)?;
             number_in_stmts(body, counting)
         }
         Stmt::While(node, condition, body) => {
-            counting.number(node)?;
-            number_in_expr(condition.get_mut(), counting)?;
+            number_two(node, condition, counting)?;
             number_in_stmts(body, counting)
         }
         Stmt::Repeat(node, body, condition) => {

@@ -5,19 +5,19 @@ use Rattle.st_tree.specs.declared.statement.Stmt.TheOpen.{Stmt-F}
 use Rattle.tree_numbers.proofs.CountedEquations.{rolled_stmt}
 use Rattle.tree_numbers.proofs.statements.+statement.Goals as goal
 
-pub number_in_stmt-returns-in_ok-number-in-Call-2-clause-tree :
-    goal.number_in_stmt-returns-in_ok-number-in-Call-2-clause-tree
+pub number_in_stmt-returns-in_ok-number_two-in-Call-clause-tree :
+    goal.number_in_stmt-returns-in_ok-number_two-in-Call-clause-tree
 unfolding roll-Stmt Carrier.roll
-number_in_stmt-returns-in_ok-number-in-Call-2-clause-tree t c =
+number_in_stmt-returns-in_ok-number_two-in-Call-clause-tree t c =
     let made =
     rolled_stmt (Stmt-F.Call c.in-Call.node c.in-Call.name c.in-Call.arguments)
     c.args.counting.now in
     rw c.in-Call.is (rw made (search rules))
 
-pub number_in_stmt-returns-in_ok-number-in-Call-2-clause-rest :
-    goal.number_in_stmt-returns-in_ok-number-in-Call-2-clause-rest
+pub number_in_stmt-returns-in_ok-number_two-in-Call-clause-rest :
+    goal.number_in_stmt-returns-in_ok-number_two-in-Call-clause-rest
 unfolding roll-Stmt Carrier.roll
-number_in_stmt-returns-in_ok-number-in-Call-2-clause-rest t c =
+number_in_stmt-returns-in_ok-number_two-in-Call-clause-rest t c =
     let made =
     rolled_stmt (Stmt-F.Call c.in-Call.node c.in-Call.name c.in-Call.arguments)
     c.args.counting.now in
