@@ -6,6 +6,3 @@ mod names;
 
 pub use letters::{compare_names, is_same_name};
 pub use names::{NameRow, Names};
-
-#[cfg(test)]
-mod tests;

@@ -11,6 +11,3 @@ pub use function::{
     StandardFunction, is_left_out_function, is_left_out_type, is_standard, standard_function,
 };
 pub use types::elem_named;
-
-#[cfg(test)]
-mod tests;

@@ -6,8 +6,6 @@ mod disabled;
 mod entry;
 mod field;
 mod settings;
-#[cfg(test)]
-mod tests;
 
 pub use field::{Field, SettingsRefusal};
 pub use settings::read_settings;

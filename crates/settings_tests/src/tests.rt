@@ -1,5 +1,5 @@
 // Settings at both sides of each limit, their defaults, and which of two bad fields is told.
-use super::*;
+use station_settings::{CallerKey, Field, Settings, SettingsRefusal, read_settings};
 use std::alloc::{AllocError, Global};
 
 /// What the text is refused by.
@@ -116,10 +116,10 @@ const REFUSED: [(&str, &str); 44] = [
 
 #[test]
 fn limits(rt: HostRuntime) {
-    for text in READ {
+    for text in &READ {
         assert!(rt; is_read(&rt, text.as_bytes()), "{text}");
     }
-    for (text, name) in REFUSED {
+    for (text, name) in &REFUSED {
         assert!(rt; is_refused(&rt, text.as_bytes(), name.as_bytes()), "{text}");
     }
     assert!(rt; is_refused(&rt, b"name_min = 0 # \xff", b"toml"));
