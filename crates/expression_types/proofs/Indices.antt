@@ -7,7 +7,7 @@ use Rattle.link_faults.specs.declared.fault.Faults.{Faults}
 use Rattle.expression_types.specs.Lists.{TellsAll}
 use Rattle.expression_types.specs.steps.Several.{where_all}
 use Rattle.expression_types.specs.Meanings.{Meanings}
-use Rattle.expression_types.specs.Judge.{Read, element_of, indices_in, indexed}
+use Rattle.expression_types.specs.Reads.{Read, element_of, indices_in, indexed}
 use Rattle.expression_types.specs.declared.judged.Standing.{Standing}
 use Rattle.expression_types.specs.declared.meaning.ValueType.{ValueType}
 use Rattle.expression_types.proofs.Told.{with_all_told}

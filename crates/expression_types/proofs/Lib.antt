@@ -3,3 +3,5 @@ mod Told
 mod Loops
 mod Indices
 mod Operands
+mod Steps
+mod Calls

@@ -9,10 +9,10 @@ use Rattle.link_faults.specs.declared.fault.Faults.{Faults}
 use Rattle.link_faults.proofs.Tells.{after_append}
 use Rattle.expression_types.specs.Lists.{are_good, faults_of, TellsAll}
 use Rattle.expression_types.specs.steps.Several.{still_good}
-use Rattle.expression_types.specs.Judge.{ReadPart, part_of, walk}
+use Rattle.expression_types.specs.Reads.{ReadPart, part_of, walk}
 use Rattle.expression_types.specs.declared.meaning.ValueType.{ValueType}
 
-cut : {E : Type 0} (items : List E) (i : ℕ) (e : E) → i < length items → e ≡ get_or items i e
+pub cut : {E : Type 0} (items : List E) (i : ℕ) (e : E) → i < length items → e ≡ get_or items i e
     → drop i items ≡ e ∷ drop (i + 1) items
 cut items i e lt is = rw add-one (drop-cons items i e lt ∙ ap (λ y. y ∷ drop (suc i) items) (sym is))
 
@@ -24,7 +24,7 @@ pub record LeftOf {A : Type 0} (xs ys : List (Checked A)) (old mid : Faults) (so
   pub first : after old (faults_of xs) ≡ after mid (faults_of ys)
   pub all : are_good xs ≡ (so_far && are_good ys)
 
-and_true : (b : Bool) → (b && true) ≡ b
+pub and_true : (b : Bool) → (b && true) ≡ b
 and_true true = refl
 and_true false = refl
 
@@ -51,7 +51,7 @@ next_bad xs ys (Bad fs) old mid new all left t =
       all = left.all ∙ and_false all;
     }
 
-next_told : {A : Type 0} (xs ys : List (Checked A)) (y : Checked A) (old mid new : Faults) (all : Bool)
+pub next_told : {A : Type 0} (xs ys : List (Checked A)) (y : Checked A) (old mid new : Faults) (all : Bool)
     (r : Option A) → LeftOf xs (y ∷ ys) old mid all → Tells y mid new r
     → LeftOf xs ys old new (still_good all r)
 next_told xs ys y old mid new all (Some a) left t = next_good xs ys y old mid new all a left t

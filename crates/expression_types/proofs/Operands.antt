@@ -11,7 +11,8 @@ use Rattle.link_faults.specs.Checked.{Checked, Tells}
 use Rattle.link_faults.specs.declared.fault.Faults.{Faults}
 use Rattle.expression_types.specs.steps.Pairs.{of_both}
 use Rattle.expression_types.specs.Meanings.{Meanings}
-use Rattle.expression_types.specs.Judge.{Read, ReadPart, ReadArgument, ReadPath, read, read_in, part_in, argument_in, path_in, operand, settled_operand, settled_pair, settled_binary, operated, binary}
+use Rattle.expression_types.specs.Reads.{Read, ReadPart, ReadArgument, ReadPath, part_in, argument_in, path_in, operand, settled_operand, settled_pair, settled_binary, operated, binary}
+use Rattle.expression_types.specs.Judge.{read, read_in}
 use Rattle.expression_types.specs.declared.judged.Judged.{Judged}
 use Rattle.expression_types.specs.declared.judged.Standing.{Standing}
 use Rattle.expression_types.proofs.Told.{both_of}

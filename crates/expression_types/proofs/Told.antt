@@ -10,7 +10,7 @@ use Rattle.st_tree.specs.declared.node.Node.{Node}
 use Rattle.expression_types.specs.declared.judged.Judged.{Judged}
 use Rattle.expression_types.specs.declared.judged.Standing.{Standing}
 use Rattle.expression_types.specs.declared.meaning.Seen.{Seen}
-use Rattle.expression_types.specs.Judge.{ReadPart, with_parts, root_type, seen_judged}
+use Rattle.expression_types.specs.Reads.{ReadPart, with_parts, root_type, seen_judged}
 use Rattle.expression_types.specs.steps.Several.{where_all}
 use Rattle.expression_types.specs.Lists.{are_good, faults_of, with_all, TellsAll}
 

@@ -3,4 +3,7 @@ pub mod Types
 pub mod Meanings
 pub mod Lists
 pub mod Rules
+pub mod Reads
+pub mod Inputs
+pub mod Calls
 pub mod Judge

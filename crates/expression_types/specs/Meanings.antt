@@ -7,7 +7,9 @@ use Rattle.expression_types.specs.declared.meaning.Field.{Field}
 use Rattle.expression_types.specs.declared.meaning.Callee.{Callee}
 use Rattle.st_tree.specs.declared.code.Number.{Number}
 use Rattle.expression_types.specs.declared.meaning.TypedNumber.{TypedNumber}
+use Rattle.expression_types.specs.declared.meaning.FunctionNo.{FunctionNo}
 use Rattle.expression_types.specs.declared.meaning.ShapeNo.{ShapeNo}
+use Rattle.expression_types.specs.declared.meaning.Taken.{Taken}
 use Rattle.expression_types.specs.declared.meaning.ValueType.{ValueType}
 
 -- what declarations of constants may use
@@ -25,6 +27,20 @@ pub record Names : Type 0 where
   -- two shapes are one type
   pub is_same : ShapeNo → ShapeNo → Bool
 
+-- an input of a function: its name, with letters raised, and what it takes
+pub record Input : Type 0 where
+  pub name : List ℕ
+  pub taken : Taken
+
+-- a function of the project, as calls see it
+pub record Function : Type 0 where
+  -- in the order of the text
+  pub inputs : List Input
+  -- the names of all its variables, with letters raised
+  pub declared : List (List ℕ)
+  -- the type of its result; none where that declaration holds a fault
+  pub result : Option ValueType
+
 -- what expressions with parts, operators and calls may use beside them
 pub record Parts : Type 0 where
   -- the variable at an address
@@ -36,6 +52,8 @@ pub record Parts : Type 0 where
   pub is_enumeration : ShapeNo → Bool
   -- what a call of a name calls
   pub callee : List ℕ → Callee
+  -- a function of the project by its number
+  pub function : FunctionNo → Function
 
 pub record Meanings : Type 0 where
   pub names : Names

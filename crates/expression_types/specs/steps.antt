@@ -1,3 +1,4 @@
 pub mod Exact
 pub mod Pairs
 pub mod Several
+pub mod Apart

@@ -1,25 +1,30 @@
 // What an expression is, or its faults: each call notes the first fault, and answers None where there is
 // one, or where what is faulty elsewhere is used.
 
-ghost use Rattle.std.specs.Prelude.{◌≡◌, map};
+ghost use Rattle.std.specs.Prelude.{◌≡◌, Some, map};
 ghost use Rattle.link_faults.specs.Checked.{Tells};
 ghost use Rattle.expression_types.specs.Lists.{TellsAll};
 ghost use Rattle.expression_types.specs.Meanings.{meant};
+ghost use Rattle.expression_types.specs.Reads as reads;
+ghost use Rattle.expression_types.specs.Calls as calls;
 ghost use Rattle.expression_types.specs.Judge as spec;
+ghost use Rattle.expression_types.specs.declared.meaning.Taken.TheVariants as taken;
 
 use crate::answers::{still_good, where_all};
+use crate::arguments::{fits_function, is_undeclared, place_given};
+use crate::function_calls::{function_result, taken_by, whole_code};
 use crate::judged::{ExprType, Judged, Place, Standing};
 use crate::loose::node_of;
-use crate::meaning::{Meaning, Names, Seen, ValueType};
+use crate::meaning::{Callee, FunctionNo, Meaning, Names, Seen, Taken, ValueType};
 use crate::operators::{operated_pair, with_unary};
-use crate::parts::{element_of, field_of, root_seen, root_type, uncallable};
+use crate::parts::{element_of, field_of, root_seen, root_type};
 use crate::places::fitted;
 use crate::rules::{
     known, known_number, number_literal, plain, truth_number, typed, typed_literal, used,
-    value_of_type, varying, without_own,
+    value_of_type, varying, without_own, wrong,
 };
 use iec_tables::elem::Elem;
-use link_faults::Faults;
+use link_faults::{Faults, LinkCode};
 use st_tree::{
     Argument, BinaryOperator, Expr, Identifier, Node, Number, Part, Path, UnaryOperator,
 };
@@ -33,7 +38,7 @@ fn are_integers<M: Meaning>(
     faults: &mut Faults,
     indices: &[Expr],
 ) -> bool
-    ensures { TellsAll (spec.indices_in (meant (M.names meaning.now) (M.parts meaning.now))
+    ensures { TellsAll (reads.indices_in (meant (M.names meaning.now) (M.parts meaning.now))
         standing (map (spec.read (meant (M.names meaning.now) (M.parts meaning.now)) standing)
         indices.now)) faults.old faults.new result }
 {
@@ -56,7 +61,7 @@ fn indices_alone<M: Meaning>(
     faults: &mut Faults,
     indices: &[Expr],
 ) -> Option<ValueType>
-    ensures { Tells (spec.indices_alone (meant (M.names meaning.now) (M.parts meaning.now))
+    ensures { Tells (reads.indices_alone (meant (M.names meaning.now) (M.parts meaning.now))
         standing (map (spec.read (meant (M.names meaning.now) (M.parts meaning.now)) standing)
         indices.now)) faults.old faults.new result }
 {
@@ -75,7 +80,7 @@ fn element<M: Meaning>(
     indices: &[Expr],
     before: ValueType,
 ) -> Option<ValueType>
-    ensures { Tells (spec.indexed (meant (M.names meaning.now) (M.parts meaning.now)) standing
+    ensures { Tells (reads.indexed (meant (M.names meaning.now) (M.parts meaning.now)) standing
         node (map (spec.read (meant (M.names meaning.now) (M.parts meaning.now)) standing)
         indices.now) before) faults.old faults.new result }
 {
@@ -95,7 +100,7 @@ fn part_type<M: Meaning>(
     before: Option<ValueType>,
     part: &Part,
 ) -> Option<ValueType>
-    ensures { Tells (spec.part_of (spec.read_part (meant (M.names meaning.now) (M.parts
+    ensures { Tells (reads.part_of (spec.read_part (meant (M.names meaning.now) (M.parts
         meaning.now)) standing part.now) node before) faults.old faults.new result }
 {
     match part {
@@ -121,7 +126,7 @@ fn walk<M: Meaning>(
     before: Option<ValueType>,
     parts: &[Part],
 ) -> Option<ValueType>
-    ensures { Tells (spec.walk node (map (spec.read_part (meant (M.names meaning.now) (M.parts
+    ensures { Tells (reads.walk node (map (spec.read_part (meant (M.names meaning.now) (M.parts
         meaning.now)) standing) parts.now) before) faults.old faults.new result }
 {
     let mut ty = before;
@@ -142,8 +147,8 @@ fn with_parts<M: Meaning>(
     seen: Seen,
     parts: &[Part],
 ) -> Option<Judged>
-    ensures { Tells (spec.with_parts standing node (map (spec.read_part (meant (M.names
-        meaning.now) (M.parts meaning.now)) standing) parts.now) (spec.root_type standing node
+    ensures { Tells (reads.with_parts standing node (map (spec.read_part (meant (M.names
+        meaning.now) (M.parts meaning.now)) standing) parts.now) (reads.root_type standing node
         seen)) faults.old faults.new result }
 {
     match root_type(faults, standing, node, seen) {
@@ -169,7 +174,7 @@ fn seen_judged<M: Meaning>(
     seen: Seen,
     parts: &[Part],
 ) -> Option<Judged>
-    ensures { Tells (spec.seen_judged standing node seen (map (spec.read_part (meant (M.names
+    ensures { Tells (reads.seen_judged standing node seen (map (spec.read_part (meant (M.names
         meaning.now) (M.parts meaning.now)) standing) parts.now)) faults.old faults.new result }
 {
     match parts {
@@ -210,7 +215,7 @@ fn argument_value<M: Meaning>(
     faults: &mut Faults,
     argument: &Argument,
 ) -> Option<Judged>
-    ensures { Tells (spec.argument_value (meant (M.names meaning.now) (M.parts meaning.now))
+    ensures { Tells (reads.argument_value (meant (M.names meaning.now) (M.parts meaning.now))
         standing (spec.read_argument (meant (M.names meaning.now) (M.parts meaning.now)) standing
         argument.now)) faults.old faults.new result }
 {
@@ -226,7 +231,7 @@ fn are_values<M: Meaning>(
     faults: &mut Faults,
     arguments: &[Argument],
 ) -> bool
-    ensures { TellsAll (spec.arguments_in (meant (M.names meaning.now) (M.parts meaning.now))
+    ensures { TellsAll (reads.arguments_in (meant (M.names meaning.now) (M.parts meaning.now))
         standing (map (spec.read_argument (meant (M.names meaning.now) (M.parts meaning.now))
         standing) arguments.now)) faults.old faults.new result }
 {
@@ -240,8 +245,163 @@ fn are_values<M: Meaning>(
     all
 }
 
+/// Where nothing can be called so, the values of the arguments are judged all the same.
 #[cycle(expression)]
 #[tactic(auto, using(crate::proofs::Told::with_all_told))]
+fn uncalled<M: Meaning>(
+    meaning: &M,
+    standing: Standing,
+    faults: &mut Faults,
+    node: Node,
+    code: LinkCode,
+    arguments: &[Argument],
+) -> Option<Judged>
+    ensures { Tells (calls.uncalled (meant (M.names meaning.now) (M.parts meaning.now)) standing node code (map (spec.read_argument (meant (M.names meaning.now) (M.parts meaning.now)) standing)
+        arguments.now)) faults.old faults.new result }
+{
+    let called = wrong(faults, standing, node, code);
+    let all = are_values(meaning, standing, faults, arguments);
+    where_all(all, called)
+}
+
+/// EN and ENO are out of profile.
+#[cycle(expression)]
+#[tactic(auto, unfolding(crate::specs::Judge::read_argument, crate::specs::Judge::read), using(crate::proofs::Told::both_left))]
+fn enabled<M: Meaning>(
+    meaning: &M,
+    standing: Standing,
+    faults: &mut Faults,
+    argument: &Argument,
+) -> Option<Judged>
+    ensures { Tells (calls.enabled (meant (M.names meaning.now) (M.parts meaning.now)) standing (spec.read_argument (meant (M.names meaning.now) (M.parts meaning.now)) standing argument.now)
+        argument.now.name) faults.old faults.new result }
+{
+    match &argument.name {
+        None => argument_value(meaning, standing, faults, argument),
+        Some(name) => {
+            let left: Option<Judged> = wrong(faults, standing, name.node, LinkCode::OutOfProfile);
+            let _also = argument_value(meaning, standing, faults, argument);
+            left
+        }
+    }
+}
+
+// ---- functions of the project
+
+/// The value of what takes none but whole arrays, structures and blocks.
+#[cycle(expression)]
+#[tactic(auto, using(crate::proofs::Told::bind_some, crate::proofs::Told::bind_none))]
+fn whole_value<M: Meaning>(
+    meaning: &M,
+    standing: Standing,
+    faults: &mut Faults,
+    e: &Expr,
+) -> Option<Judged>
+    ensures { Tells (calls.value_taken (meant (M.names meaning.now) (M.parts meaning.now)) standing (spec.read (meant (M.names meaning.now) (M.parts meaning.now)) standing e.now) (Some taken.Nothing))
+        faults.old faults.new result }
+{
+    match placed(meaning, standing, faults, Place::Any, e) {
+        None => None,
+        Some(judged) => whole_code(
+            meaning,
+            standing,
+            faults,
+            node_of(meaning, standing, e),
+            judged.ty,
+        ),
+    }
+}
+
+/// The value of an input.
+#[cycle(expression)]
+fn value_taken<M: Meaning>(
+    meaning: &M,
+    standing: Standing,
+    faults: &mut Faults,
+    e: &Expr,
+    taken: Option<Taken>,
+) -> Option<Judged>
+    ensures { Tells (calls.value_taken (meant (M.names meaning.now) (M.parts meaning.now)) standing (spec.read (meant (M.names meaning.now) (M.parts meaning.now)) standing e.now) taken)
+        faults.old faults.new result }
+{
+    match taken {
+        None => placed(meaning, standing, faults, Place::Any, e),
+        Some(Taken::Anything) => placed(meaning, standing, faults, Place::Any, e),
+        Some(Taken::Elem(elem)) => placed(meaning, standing, faults, Place::Elem(elem), e),
+        Some(Taken::Shape(shape)) => placed(meaning, standing, faults, Place::Shape(shape), e),
+        Some(Taken::Nothing) => whole_value(meaning, standing, faults, e),
+    }
+}
+
+/// An argument at its place in the list.
+#[cycle(expression)]
+#[tactic(auto, unfolding(crate::specs::Judge::read_argument, crate::specs::Judge::read))]
+fn given<M: Meaning>(
+    meaning: &M,
+    standing: Standing,
+    faults: &mut Faults,
+    function: FunctionNo,
+    at: usize,
+    argument: &Argument,
+) -> Option<Judged>
+    ensures { Tells (calls.given (meant (M.names meaning.now) (M.parts meaning.now)) standing ((M.parts meaning.now).function function) at
+        (spec.read_argument (meant (M.names meaning.now) (M.parts meaning.now)) standing argument.now)) faults.old faults.new result }
+{
+    if is_undeclared(meaning, function, &argument.name) {
+        enabled(meaning, standing, faults, argument)
+    } else {
+        let place = place_given(meaning, function, at, &argument.name);
+        let taken = taken_by(meaning, function, place);
+        value_taken(meaning, standing, faults, argument.value.get(), taken)
+    }
+}
+
+/// Whether the arguments hold no faults.
+#[cycle(expression)]
+#[tactic(auto, using(crate::proofs::Calls::given_step, crate::proofs::Calls::given_end))]
+fn are_all_given<M: Meaning>(
+    meaning: &M,
+    standing: Standing,
+    faults: &mut Faults,
+    function: FunctionNo,
+    arguments: &[Argument],
+) -> bool
+    ensures { TellsAll (calls.all_given (meant (M.names meaning.now) (M.parts meaning.now)) standing ((M.parts meaning.now).function function) 0
+        (map (spec.read_argument (meant (M.names meaning.now) (M.parts meaning.now)) standing) arguments.now)) faults.old faults.new result }
+{
+    let mut all = true;
+    for i in 0..arguments.len() {
+        all = still_good(
+            all,
+            given(meaning, standing, faults, function, i, &arguments[i]),
+        );
+    }
+    all
+}
+
+#[cycle(expression)]
+#[tactic(auto, using(crate::proofs::Calls::function_told))]
+fn function_call<M: Meaning>(
+    meaning: &M,
+    standing: Standing,
+    faults: &mut Faults,
+    node: Node,
+    function: FunctionNo,
+    arguments: &[Argument],
+) -> Option<Judged>
+    ensures { Tells (calls.function_called (meant (M.names meaning.now) (M.parts meaning.now)) standing node ((M.parts meaning.now).function
+        function) (map (spec.read_argument (meant (M.names meaning.now) (M.parts meaning.now)) standing) arguments.now)) faults.old faults.new
+        result }
+{
+    let fits = fits_function(meaning, function, arguments);
+    let called = function_result(meaning, standing, faults, node, function, fits);
+    let all = are_all_given(meaning, standing, faults, function, arguments);
+    where_all(all, called)
+}
+
+// ---- calls
+
+#[cycle(expression)]
 fn call<M: Meaning>(
     meaning: &M,
     standing: Standing,
@@ -250,13 +410,33 @@ fn call<M: Meaning>(
     name: &Identifier,
     arguments: &[Argument],
 ) -> Option<Judged>
-    ensures { Tells (spec.called (meant (M.names meaning.now) (M.parts meaning.now)) standing node
-        name.now (map (spec.read_argument (meant (M.names meaning.now) (M.parts meaning.now))
-        standing) arguments.now)) faults.old faults.new result }
+    ensures { Tells (spec.called (meant (M.names meaning.now) (M.parts meaning.now)) standing node name.now (map (spec.read_argument (meant (M.names meaning.now) (M.parts meaning.now)) standing) arguments.now)) faults.old faults.new result }
 {
-    let called = uncallable(faults, standing, node, meaning.callee(name.name.bytes()));
-    let all = are_values(meaning, standing, faults, arguments);
-    where_all(all, called)
+    match meaning.callee(name.name.bytes()) {
+        Callee::Unknown => {
+            uncalled(
+                meaning,
+                standing,
+                faults,
+                node,
+                LinkCode::WrongCall,
+                arguments,
+            )
+        }
+        Callee::LeftOut => {
+            uncalled(
+                meaning,
+                standing,
+                faults,
+                node,
+                LinkCode::OutOfProfile,
+                arguments,
+            )
+        }
+        Callee::Function(called) => {
+            function_call(meaning, standing, faults, node, called, arguments)
+        }
+    }
 }
 
 /// An operand: a fault of its own counts.
@@ -268,7 +448,7 @@ fn operand<M: Meaning>(
     faults: &mut Faults,
     e: &Expr,
 ) -> Option<Judged>
-    ensures { Tells (spec.operand standing (spec.read (meant (M.names meaning.now) (M.parts
+    ensures { Tells (reads.operand standing (spec.read (meant (M.names meaning.now) (M.parts
         meaning.now)) standing e.now).node (spec.read (meant (M.names meaning.now) (M.parts
         meaning.now)) standing e.now).judged) faults.old faults.new result }
 {
@@ -288,7 +468,7 @@ fn unary<M: Meaning>(
     operator: UnaryOperator,
     e: &Expr,
 ) -> Option<Judged>
-    ensures { Tells (spec.unary standing node operator (spec.read (meant (M.names meaning.now)
+    ensures { Tells (reads.unary standing node operator (spec.read (meant (M.names meaning.now)
         (M.parts meaning.now)) standing e.now)) faults.old faults.new result }
 {
     match operand(meaning, standing, faults, e) {

@@ -2,7 +2,9 @@
 #![tactic(auto)]
 
 mod answers;
+mod arguments;
 mod expressions;
+mod function_calls;
 mod judged;
 mod loose;
 mod meaning;
@@ -16,6 +18,7 @@ pub use expressions::{constant_number, judge, judge_path, placed};
 pub use judged::{ExprType, Judged, Place, Standing};
 pub use loose::node_of;
 pub use meaning::{
-    Callee, Constant, Field, Meaning, Names, Seen, ShapeNo, TypeValue, TypedNumber, ValueType,
+    Callee, Constant, Field, FunctionNo, Meaning, Names, Seen, ShapeNo, Taken, TypeValue,
+    TypedNumber, ValueType,
 };
 pub use types::common;

@@ -5,6 +5,7 @@ ghost use Rattle.link_faults.specs.Checked.{Tells};
 ghost use Rattle.expression_types.specs.Meanings.{meant};
 ghost use Rattle.expression_types.specs.steps.Pairs.{of_both};
 ghost use Rattle.expression_types.specs.Types.{own_type as own_type_of};
+ghost use Rattle.expression_types.specs.Reads as reads;
 ghost use Rattle.expression_types.specs.Judge as spec;
 
 use crate::judged::{Judged, Standing};
@@ -80,7 +81,7 @@ fn settled_pair(
     left: Option<Judged>,
     right: Option<Judged>,
 ) -> Option<Judged>
-    ensures { Tells (of_both left right (spec.settled_pair standing node operator elem))
+    ensures { Tells (of_both left right (reads.settled_pair standing node operator elem))
         faults.old faults.new result }
 {
     match (left, right) {
@@ -102,7 +103,7 @@ fn settled_unary<M: Meaning>(
     elem: Elem,
     e: &Expr,
 ) -> Option<Judged>
-    ensures { Tells (spec.settled_unary standing node (spec.read (meant (M.names meaning.now)
+    ensures { Tells (reads.settled_unary standing node (spec.read (meant (M.names meaning.now)
         (M.parts meaning.now)) standing e.now) elem) faults.old faults.new result }
 {
     match settled_operand(meaning, standing, faults, elem, e) {
@@ -157,7 +158,7 @@ pub(crate) fn settled_operand<M: Meaning>(
     elem: Elem,
     e: &Expr,
 ) -> Option<Judged>
-    ensures { Tells (spec.settled_operand standing (spec.read (meant (M.names meaning.now)
+    ensures { Tells (reads.settled_operand standing (spec.read (meant (M.names meaning.now)
         (M.parts meaning.now)) standing e.now) elem) faults.old faults.new result }
 {
     match settle(meaning, standing, faults, elem, e) {

@@ -76,6 +76,10 @@ pub enum Field {
     Is(ValueType),
 }
 
+/// The number of a function of the project.
+#[derive(Clone, Copy, Debug, PartialEq, Eq)]
+pub struct FunctionNo(pub u32);
+
 /// What a call of a name calls.
 #[derive(Clone, Copy, Debug, PartialEq, Eq)]
 pub enum Callee {
@@ -83,6 +87,21 @@ pub enum Callee {
     Unknown,
     /// A function that the profile leaves out.
     LeftOut,
+    /// A function of the project.
+    Function(FunctionNo),
+}
+
+/// What an input of a function takes.
+#[derive(Clone, Copy, Debug, PartialEq, Eq)]
+pub enum Taken {
+    /// Its declaration holds a fault: any value will do.
+    Anything,
+    /// What converts to this type.
+    Elem(Elem),
+    /// A value of this enumeration.
+    Shape(ShapeNo),
+    /// It is an array, a structure or a block, which no argument gives.
+    Nothing,
 }
 
 /// What literals, and the names in declarations of constants, mean.
@@ -119,7 +138,10 @@ pub trait Names {
 
 /// What the names in any expression mean.
 pub trait Meaning: Names {
+    ghost use Rattle.std.specs.Prelude.{length};
+    ghost use Rattle.iec_tables.specs.Words.{raised_all};
     ghost use Rattle.expression_types.specs.Meanings.{Parts};
+    ghost use Rattle.expression_types.specs.Inputs as inputs;
 
     ghost parts: { Self → Parts };
 
@@ -142,4 +164,27 @@ pub trait Meaning: Names {
     /// What a call of a name calls.
     fn callee(&self, name: &[u8]) -> Callee
         ensures { result ≡ (parts self.now).callee name.now };
+
+    /// How many inputs a function has.
+    fn input_count(&self, function: FunctionNo) -> usize
+        ensures { result ≡ length ((parts self.now).function function).inputs };
+
+    /// What an input takes, by its place among a function's inputs, counted from 0; none past the
+    /// last one.
+    fn input(&self, function: FunctionNo, at: usize) -> Option<Taken>
+        ensures { result ≡ inputs.taken_at ((parts self.now).function function).inputs at };
+
+    /// The place of the input with this name among a function's inputs.
+    fn input_named(&self, function: FunctionNo, name: &[u8]) -> Option<usize>
+        ensures { result ≡ inputs.place_of ((parts self.now).function function).inputs
+            (raised_all name.now) };
+
+    /// Whether a function declares a variable of this name.
+    fn declares(&self, function: FunctionNo, name: &[u8]) -> bool
+        ensures { result ≡ inputs.is_among ((parts self.now).function function).declared
+            (raised_all name.now) };
+
+    /// The type of a function's result; none where the declaration of the result holds a fault.
+    fn result_type(&self, function: FunctionNo) -> Option<ValueType>
+        ensures { result ≡ ((parts self.now).function function).result };
 }

@@ -6,6 +6,7 @@ ghost use Rattle.expression_types.specs.Meanings.{meant};
 ghost use Rattle.expression_types.specs.steps.Pairs.{of_both};
 ghost use Rattle.expression_types.specs.Types.{own_type as own_type_of};
 ghost use Rattle.expression_types.specs.Rules as rules;
+ghost use Rattle.expression_types.specs.Reads as reads;
 ghost use Rattle.expression_types.specs.Judge as spec;
 
 use crate::judged::{ExprType, Judged, Standing};
@@ -24,7 +25,7 @@ fn own_type_of_both<M: Meaning>(
     left: &Expr,
     right: &Expr,
 ) -> Option<Elem>
-    ensures { result ≡ own_type_of (spec.holds_both (spec.read (meant (M.names meaning.now)
+    ensures { result ≡ own_type_of (reads.holds_both (spec.read (meant (M.names meaning.now)
         (M.parts meaning.now)) standing left.now) (spec.read (meant (M.names meaning.now) (M.parts
         meaning.now)) standing right.now)) }
 {
@@ -53,7 +54,7 @@ fn operation_of(
     left: Option<Judged>,
     right: Option<Judged>,
 ) -> Option<Judged>
-    ensures { Tells (of_both left right (spec.operation_of standing node operator elem))
+    ensures { Tells (of_both left right (reads.operation_of standing node operator elem))
         faults.old faults.new result }
 {
     match (left, right) {
@@ -75,7 +76,7 @@ fn loose_pair_at<M: Meaning>(
     right: &Expr,
     elem: Option<Elem>,
 ) -> Option<Judged>
-    ensures { Tells (spec.loose_pair_at standing node operator (spec.read (meant (M.names
+    ensures { Tells (reads.loose_pair_at standing node operator (spec.read (meant (M.names
         meaning.now) (M.parts meaning.now)) standing left.now) (spec.read (meant (M.names
         meaning.now) (M.parts meaning.now)) standing right.now) elem) faults.old faults.new result }
 {
@@ -99,7 +100,7 @@ fn loose_pair<M: Meaning>(
     left: &Expr,
     right: &Expr,
 ) -> Option<Judged>
-    ensures { Tells (spec.loose_pair standing node (rules.group_of operator) operator (spec.read
+    ensures { Tells (reads.loose_pair standing node (rules.group_of operator) operator (spec.read
         (meant (M.names meaning.now) (M.parts meaning.now)) standing left.now) (spec.read (meant
         (M.names meaning.now) (M.parts meaning.now)) standing right.now)) faults.old faults.new
         result }
@@ -118,7 +119,7 @@ fn loose_pair<M: Meaning>(
 }
 
 fn is_equality(operator: BinaryOperator) -> bool
-    ensures { result ≡ spec.is_equality (rules.group_of operator) }
+    ensures { result ≡ reads.is_equality (rules.group_of operator) }
 {
     match operator {
         BinaryOperator::Equal | BinaryOperator::NotEqual => true,
@@ -138,7 +139,7 @@ fn loose_right<M: Meaning>(
     number: Option<Number>,
     right: &Expr,
 ) -> Option<Judged>
-    ensures { Tells (spec.loose_right standing node operator elem number (spec.read (meant
+    ensures { Tells (reads.loose_right standing node operator elem number (spec.read (meant
         (M.names meaning.now) (M.parts meaning.now)) standing right.now)) faults.old faults.new
         result }
 {
@@ -168,7 +169,7 @@ fn loose_left<M: Meaning>(
     number: Option<Number>,
     left: &Expr,
 ) -> Option<Judged>
-    ensures { Tells (spec.loose_left standing node operator elem number (spec.read (meant (M.names
+    ensures { Tells (reads.loose_left standing node operator elem number (spec.read (meant (M.names
         meaning.now) (M.parts meaning.now)) standing left.now)) faults.old faults.new result }
 {
     match settled_operand(meaning, standing, faults, elem, left) {
@@ -197,7 +198,7 @@ fn operated<M: Meaning>(
     a: Judged,
     b: Judged,
 ) -> Option<Judged>
-    ensures { Tells (spec.operated (meant (M.names meaning.now) (M.parts meaning.now)) standing
+    ensures { Tells (reads.operated (meant (M.names meaning.now) (M.parts meaning.now)) standing
         node operator (spec.read (meant (M.names meaning.now) (M.parts meaning.now)) standing
         left.now) (spec.read (meant (M.names meaning.now) (M.parts meaning.now)) standing
         right.now) a b) faults.old faults.new result }
@@ -251,7 +252,7 @@ fn own_operand<M: Meaning>(
     faults: &mut Faults,
     e: &Expr,
 ) -> Option<Judged>
-    ensures { Tells (spec.own_operand standing (spec.read (meant (M.names meaning.now) (M.parts
+    ensures { Tells (reads.own_operand standing (spec.read (meant (M.names meaning.now) (M.parts
         meaning.now)) standing e.now)) faults.old faults.new result }
 {
     match settled_by(meaning, standing, faults, own_type(meaning, standing, e), e) {
@@ -269,7 +270,7 @@ fn inverted_own<M: Meaning>(
     node: Node,
     e: &Expr,
 ) -> Option<Judged>
-    ensures { Tells (spec.inverted_own standing node (spec.read (meant (M.names meaning.now)
+    ensures { Tells (reads.inverted_own standing node (spec.read (meant (M.names meaning.now)
         (M.parts meaning.now)) standing e.now)) faults.old faults.new result }
 {
     match own_operand(meaning, standing, faults, e) {
@@ -287,7 +288,7 @@ fn not_of<M: Meaning>(
     e: &Expr,
     ty: ExprType,
 ) -> Option<Judged>
-    ensures { Tells (spec.not_of standing node (spec.read (meant (M.names meaning.now) (M.parts
+    ensures { Tells (reads.not_of standing node (spec.read (meant (M.names meaning.now) (M.parts
         meaning.now)) standing e.now) ty) faults.old faults.new result }
 {
     match ty {
@@ -307,7 +308,7 @@ pub(crate) fn with_unary<M: Meaning>(
     e: &Expr,
     judged: Judged,
 ) -> Option<Judged>
-    ensures { Tells (spec.with_unary standing node operator (spec.read (meant (M.names
+    ensures { Tells (reads.with_unary standing node operator (spec.read (meant (M.names
         meaning.now) (M.parts meaning.now)) standing e.now) judged) faults.old faults.new result }
 {
     match operator {
@@ -328,7 +329,7 @@ pub(crate) fn operated_pair<M: Meaning>(
     a: Option<Judged>,
     b: Option<Judged>,
 ) -> Option<Judged>
-    ensures { Tells (of_both a b (spec.operated (meant (M.names meaning.now) (M.parts
+    ensures { Tells (of_both a b (reads.operated (meant (M.names meaning.now) (M.parts
         meaning.now)) standing node operator (spec.read (meant (M.names meaning.now) (M.parts
         meaning.now)) standing left.now) (spec.read (meant (M.names meaning.now) (M.parts
         meaning.now)) standing right.now))) faults.old faults.new result }

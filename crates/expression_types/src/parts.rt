@@ -1,18 +1,18 @@
-// What names, parts of variables and calls stand for.
+// What names and parts of variables stand for.
 
 ghost use Rattle.std.specs.Prelude.{◌≡◌};
 ghost use Rattle.link_faults.specs.Checked.{Tells};
 ghost use Rattle.expression_types.specs.Meanings.{meant};
-ghost use Rattle.expression_types.specs.Judge as spec;
+ghost use Rattle.expression_types.specs.Reads as reads;
 
-use crate::judged::{Judged, Standing};
-use crate::meaning::{Callee, Field, Meaning, Names, Seen, ValueType};
+use crate::judged::Standing;
+use crate::meaning::{Field, Meaning, Names, Seen, ValueType};
 use crate::rules::{foreign, wrong};
 use link_faults::{Faults, LinkCode};
 use st_tree::{Identifier, Node, Root};
 
 pub(crate) fn root_seen<M: Meaning>(meaning: &M, root: &Root) -> Seen
-    ensures { result ≡ spec.root_seen (meant (M.names meaning.now) (M.parts meaning.now)) root.now }
+    ensures { result ≡ reads.root_seen (meant (M.names meaning.now) (M.parts meaning.now)) root.now }
 {
     match root {
         Root::Name(name) => meaning.seen(name.name.bytes()),
@@ -27,7 +27,7 @@ pub(crate) fn root_type(
     node: Node,
     seen: Seen,
 ) -> Option<ValueType>
-    ensures { Tells (spec.root_type standing node seen) faults.old faults.new result }
+    ensures { Tells (reads.root_type standing node seen) faults.old faults.new result }
 {
     match seen {
         Seen::Unknown => wrong(faults, standing, node, LinkCode::Unknown),
@@ -46,7 +46,7 @@ fn field_type(
     name_node: Node,
     field: Field,
 ) -> Option<ValueType>
-    ensures { Tells (spec.field_type standing node name_node field) faults.old faults.new result }
+    ensures { Tells (reads.field_type standing node name_node field) faults.old faults.new result }
 {
     match field {
         Field::NoParts => wrong(faults, standing, node, LinkCode::Unknown),
@@ -66,7 +66,7 @@ pub(crate) fn field_of<M: Meaning>(
     name: &Identifier,
     before: ValueType,
 ) -> Option<ValueType>
-    ensures { Tells (spec.field_of (meant (M.names meaning.now) (M.parts meaning.now)) standing
+    ensures { Tells (reads.field_of (meant (M.names meaning.now) (M.parts meaning.now)) standing
         node name.now before) faults.old faults.new result }
 {
     match before {
@@ -90,7 +90,7 @@ pub(crate) fn element_of<M: Meaning>(
     indices: usize,
     before: ValueType,
 ) -> Option<ValueType>
-    ensures { Tells (spec.element_of (meant (M.names meaning.now) (M.parts meaning.now)) standing
+    ensures { Tells (reads.element_of (meant (M.names meaning.now) (M.parts meaning.now)) standing
         node indices before) faults.old faults.new result }
 {
     match before {
@@ -99,19 +99,5 @@ pub(crate) fn element_of<M: Meaning>(
             None => wrong(faults, standing, node, LinkCode::WrongType),
             Some(ty) => Some(ty),
         },
-    }
-}
-
-pub(crate) fn uncallable(
-    faults: &mut Faults,
-    standing: Standing,
-    node: Node,
-    callee: Callee,
-) -> Option<Judged>
-    ensures { Tells (spec.uncallable standing node callee) faults.old faults.new result }
-{
-    match callee {
-        Callee::Unknown => wrong(faults, standing, node, LinkCode::WrongCall),
-        Callee::LeftOut => wrong(faults, standing, node, LinkCode::OutOfProfile),
     }
 }

@@ -3,6 +3,7 @@
 ghost use Rattle.std.specs.Prelude.{◌≡◌};
 ghost use Rattle.link_faults.specs.Checked.{Tells};
 ghost use Rattle.expression_types.specs.Meanings.{meant};
+ghost use Rattle.expression_types.specs.Reads as reads;
 ghost use Rattle.expression_types.specs.Judge as spec;
 
 use crate::judged::{ExprType, Judged, Place, Standing};
@@ -15,7 +16,7 @@ use link_faults::{Faults, LinkCode};
 use st_tree::Expr;
 
 fn fits<M: Meaning>(meaning: &M, place: Place, ty: ExprType) -> bool
-    ensures { result ≡ spec.fits (meant (M.names meaning.now) (M.parts meaning.now)) place ty }
+    ensures { result ≡ reads.fits (meant (M.names meaning.now) (M.parts meaning.now)) place ty }
 {
     match place {
         Place::Any => true,
@@ -44,7 +45,7 @@ pub(crate) fn settled_by<M: Meaning>(
     elem: Option<Elem>,
     e: &Expr,
 ) -> Option<Judged>
-    ensures { Tells (spec.settled_by standing (spec.read (meant (M.names meaning.now) (M.parts
+    ensures { Tells (reads.settled_by standing (spec.read (meant (M.names meaning.now) (M.parts
         meaning.now)) standing e.now) elem) faults.old faults.new result }
 {
     match elem {
@@ -66,7 +67,7 @@ fn settled_at<M: Meaning>(
     place: Place,
     e: &Expr,
 ) -> Option<Judged>
-    ensures { Tells (spec.settled_at standing place (spec.read (meant (M.names meaning.now)
+    ensures { Tells (reads.settled_at standing place (spec.read (meant (M.names meaning.now)
         (M.parts meaning.now)) standing e.now)) faults.old faults.new result }
 {
     match place {
@@ -89,7 +90,7 @@ fn fitting<M: Meaning>(
     e: &Expr,
     judged: Judged,
 ) -> Option<Judged>
-    ensures { Tells (spec.fitting (meant (M.names meaning.now) (M.parts meaning.now)) standing
+    ensures { Tells (reads.fitting (meant (M.names meaning.now) (M.parts meaning.now)) standing
         place (spec.read (meant (M.names meaning.now) (M.parts meaning.now)) standing e.now)
         judged) faults.old faults.new result }
 {
@@ -111,7 +112,7 @@ pub(crate) fn fitted<M: Meaning>(
     e: &Expr,
     judged: Judged,
 ) -> Option<Judged>
-    ensures { Tells (spec.fitted (meant (M.names meaning.now) (M.parts meaning.now)) standing
+    ensures { Tells (reads.fitted (meant (M.names meaning.now) (M.parts meaning.now)) standing
         place (spec.read (meant (M.names meaning.now) (M.parts meaning.now)) standing e.now)
         judged) faults.old faults.new result }
 {

@@ -1,6 +1,8 @@
 use Rattle.std.proofs.Common.{map, drop}
 use Rattle.expression_types.specs.Meanings.{meant}
-use Rattle.expression_types.specs.Judge.{read, read_part, read_argument, indices_in, arguments_in, walk}
+use Rattle.expression_types.specs.Reads.{indices_in, arguments_in, walk}
+use Rattle.expression_types.specs.Judge.{read, read_part, read_argument}
+use Rattle.expression_types.specs.Calls.{all_given}
 use Rattle.expression_types.proofs.Loops.{LeftOf, LeftTo}
 use Rattle.expression_types.proofs.expressions.+expression.Given as goal
 
@@ -24,3 +26,11 @@ invariant-walk-loop-i g l =
     LeftTo (walk l.node (map (read_part m l.standing) l.parts) l.initial.ty)
     (walk l.node (map (read_part m l.standing) (drop l.i l.parts)) l.ty)
     l.initial.faults l.faults
+
+abbrev pub invariant-are_all_given-loop-i : goal.invariant-are_all_given-loop-i
+invariant-are_all_given-loop-i g l =
+    let m = meant (g.M.Names.names l.meaning) (g.M.Meaning.parts l.meaning) in
+    let f = (g.M.Meaning.parts l.meaning).function l.function in
+    LeftOf (all_given m l.standing f 0 (map (read_argument m l.standing) l.arguments))
+    (all_given m l.standing f l.i (map (read_argument m l.standing) (drop l.i l.arguments)))
+    l.initial.faults l.faults l.all
