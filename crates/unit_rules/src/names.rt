@@ -2,10 +2,9 @@
 
 ghost use Rattle.std.specs.Prelude.{◌≡◌, ◌<◌, length};
 ghost use Rattle.std.specs.Option.{option_copied};
-ghost use Rattle.scope_names.specs.Scopes.{StandsAt};
+ghost use Rattle.scope_names.specs.Scopes.{StandsAt, declares};
 ghost use Rattle.link_faults.specs.First.{after};
 ghost use Rattle.unit_rules.specs.Twice as spec;
-ghost use Rattle.unit_rules.specs.Standard.{is_standard_name};
 
 use link_faults::{Faults, LinkCode};
 use project_declarations::{OUTERMOST, VALUES, What};
@@ -47,7 +46,7 @@ fn is_same_enumeration(a: Option<Site>, b: Option<Site>) -> bool
 }
 
 fn declares_same(other: &NameRow<'_, What>, row: &NameRow<'_, What>) -> bool
-    ensures { result ≡ spec.declares row.now.scope row.now.name.now other.now }
+    ensures { result ≡ declares row.now.scope row.now.name.now other.now }
 {
     other.scope == row.scope && is_same_name(other.name, row.name)
 }
