@@ -1,3 +1,4 @@
 pub mod Noting
 pub mod GivenBefore
 pub mod Further
+pub mod Repeating

@@ -1,8 +1,8 @@
 -- Faults that are noted one after the other: the turns of loops.
-use Rattle.std.proofs.Common.{◌≡◌, ◌∙◌, ℕ, suc, ◌+◌, ◌<◌, List, [], ◌∷◌, ◌++◌, length, take, get_or}
+use Rattle.std.proofs.Common.{◌≡◌, ◌∙◌, ℕ, suc, ◌+◌, ◌<◌, ◌≤◌, List, [], ◌∷◌, ◌++◌, length, take, drop, get_or}
 use Rattle.std.proofs.Common.{ap, sym, refl, arith}
 use Rattle.std.specs.Prelude.{map, flat_map}
-use Rattle.std.proofs.lemmas.List.{append-nil, map-append, append_assoc}
+use Rattle.std.proofs.lemmas.List.{append-nil, map-append, append_assoc, drop-map, drop_all}
 use Rattle.std.proofs.lemmas.Grind.{common_steps, flat_map-append}
 use Rattle.link_faults.specs.First.{after}
 use Rattle.link_faults.specs.declared.fault.LinkFault.{LinkFault}
@@ -97,3 +97,10 @@ pub noted_at : {X : Type 0} (f : ℕ → X → List LinkFault) (xs : List X) (k 
 noted_at f xs k x old mid new l e h m =
     longer (joined (each_from f 0 (take k xs))) (f k x) (joined (each_from f 0 (take (k + 1) xs)))
     old mid new (joined_more f xs k x l e) h m
+
+pub dropped : {X Y : Type 0} (g : X → Y) (n : ℕ) (xs : List X) → map g (drop n xs) ≡ drop n (map g xs)
+dropped g n xs = sym (drop-map g n xs)
+
+pub none_left : {X Y : Type 0} (g : X → Y) (n : ℕ) (xs : List X) → length xs ≤ n
+    → drop n (map g xs) ≡ []
+none_left g n xs l = drop-map g n xs ∙ ap (map g) (drop_all n xs l)

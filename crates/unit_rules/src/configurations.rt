@@ -15,6 +15,7 @@ use project_declarations::{UnitRow, What};
 use scope_names::Names;
 use st_tree::{Config, Resource, Tasks};
 
+#[tactic(auto, using(crate::proofs::Noting::after_append))]
 fn note_running<M: Meaning>(
     meaning: &M,
     names: &Names<'_, What>,
@@ -65,6 +66,7 @@ fn note_further(file: u16, resources: &[Resource], faults: &mut Faults)
     }
 }
 
+#[tactic(auto, using(crate::proofs::Noting::after_append))]
 fn note_config<M: Meaning>(
     meaning: &M,
     names: &Names<'_, What>,

@@ -60,6 +60,7 @@ fn note_all<M: Meaning>(
 /// those of the files, and the meaning is that of names outside units. Takes time linear in what the
 /// configurations hold, with two searches by halves for each line. NoMemory where there are more files
 /// than the 65,536 whose places sites have room for, and then nothing is noted.
+#[tactic(auto, using(crate::proofs::Noting::after_append))]
 pub fn note_configurations<M: Meaning>(
     meaning: &M,
     names: &Names<'_, What>,

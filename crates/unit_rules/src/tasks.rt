@@ -12,6 +12,7 @@ use expression_types::{Meaning, Names};
 use link_faults::{Faults, LinkCode};
 use st_tree::Task;
 
+#[tactic(auto, using(crate::proofs::Noting::after_append))]
 fn note_task<M: Meaning>(meaning: &M, file: u16, task: &Task, faults: &mut Faults)
     ensures { faults.new ≡ after faults.old (spec.task_faults (meant (M.names meaning.now)
         (M.parts meaning.now)) file task.now) }

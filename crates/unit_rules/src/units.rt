@@ -134,6 +134,7 @@ fn note_spare(units: &[UnitRow<'_>], faults: &mut Faults)
     }
 }
 
+#[tactic(auto, using(crate::proofs::Noting::dropped, crate::proofs::Noting::none_left))]
 fn note_beyond(units: &[UnitRow<'_>], faults: &mut Faults)
     ensures { faults.new ≡ after faults.old
         (map spec.unit_beyond (drop spec.max_units (map bare_unit units.now))) }
@@ -145,6 +146,7 @@ fn note_beyond(units: &[UnitRow<'_>], faults: &mut Faults)
 
 /// Notes the first unit beyond the most that a project may have, the first chart of a function, or the
 /// first section of variables that has no place in its unit. The units stand in file and text order.
+#[tactic(auto, using(crate::proofs::Noting::after_append))]
 pub fn note_units(units: &[UnitRow<'_>], faults: &mut Faults)
     ensures { faults.new ≡ after faults.old (spec.units_faults (map bare_unit units.now)) }
 {

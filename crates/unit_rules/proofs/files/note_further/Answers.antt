@@ -17,7 +17,7 @@ loop-place-preserved c =
     let tree = c.index-files-place.result in
     let n = c.file_number-file.result in
     let old = c.loop-place.faults in
-    let new = c.note_further_configs.new.faults in
+    let new = c.note_further_configs-any.new.faults in
     let any = c.loop-place.any in
     let done = joined (each_from further_configs 0 (take k files)) in
     let more = joined_more further_configs files k tree (omega arith) c.index-files-place.is in
@@ -27,7 +27,7 @@ loop-place-preserved c =
     record {
       noted = noted_behind done (further_configs k tree) _ any _ old new more
           c.loop-place.invariant.any c.loop-place.invariant.noted
-          (c.note_further_configs.ensures.noted ∙ ap (λ r. after old (behind any r)) told);
+          (c.note_further_configs-any.ensures.noted ∙ ap (λ r. after old (behind any r)) told);
       any = any_behind done (further_configs k tree) _ any _ more c.loop-place.invariant.any
-          (c.note_further_configs.ensures.any ∙ ap (any_of any) told);
+          (c.note_further_configs-any.ensures.any ∙ ap (any_of any) told);
     }
