@@ -2,3 +2,4 @@ pub mod Noting
 pub mod GivenBefore
 pub mod Further
 pub mod Repeating
+pub mod Standing

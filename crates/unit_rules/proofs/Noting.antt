@@ -1,6 +1,6 @@
 -- Faults that are noted one after the other: the turns of loops.
 use Rattle.std.proofs.Common.{◌≡◌, ◌∙◌, ℕ, suc, ◌+◌, ◌<◌, ◌≤◌, List, [], ◌∷◌, ◌++◌, length, take, drop, get_or}
-use Rattle.std.proofs.Common.{ap, sym, refl, arith}
+use Rattle.std.proofs.Common.{ap, sym, refl, arith, ◌-◌, take_all, length-drop}
 use Rattle.std.specs.Prelude.{map, flat_map}
 use Rattle.std.proofs.lemmas.List.{append-nil, map-append, append_assoc, drop-map, drop_all}
 use Rattle.std.proofs.lemmas.Grind.{common_steps, flat_map-append}
@@ -98,8 +98,12 @@ noted_at f xs k x old mid new l e h m =
     longer (joined (each_from f 0 (take k xs))) (f k x) (joined (each_from f 0 (take (k + 1) xs)))
     old mid new (joined_more f xs k x l e) h m
 
-pub dropped : {X Y : Type 0} (g : X → Y) (n : ℕ) (xs : List X) → map g (drop n xs) ≡ drop n (map g xs)
-dropped g n xs = sym (drop-map g n xs)
+kept : {X : Type 0} (n : ℕ) (xs : List X) → take (length xs - n) (drop n xs) ≡ drop n xs
+kept n xs = take_all (length xs - n) (drop n xs) (omega (arith, length-drop n xs))
+
+pub dropped : {X Y : Type 0} (g : X → Y) (n : ℕ) (xs : List X)
+    → map g (take (length xs - n) (drop n xs)) ≡ drop n (map g xs)
+dropped g n xs = ap (map g) (kept n xs) ∙ sym (drop-map g n xs)
 
 pub none_left : {X Y : Type 0} (g : X → Y) (n : ℕ) (xs : List X) → length xs ≤ n
     → drop n (map g xs) ≡ []

@@ -1,5 +1,5 @@
 -- Rows that declare a name already.
-use Rattle.std.proofs.Common.{◌≡◌, ◌∙◌, ℕ, ◌<◌, ◌≤◌, Bool, true, false, List, length, take, get_or, IsTrue}
+use Rattle.std.proofs.Common.{◌≡◌, ◌∙◌, ℕ, ◌<◌, ◌≤◌, Bool, true, false, cond, nat_eq, List, length, take, get_or, IsTrue}
 use Rattle.std.proofs.Common.{ap, sym, refl, subst, arith, get_or-take, length-take-le}
 use Rattle.std.specs.Prelude.{◌↔◌}
 use Rattle.std.specs.List.{list_any}
@@ -8,7 +8,7 @@ use Rattle.std.specs.Str.{bytes_eq}
 use Rattle.std.specs.Cmp.Lexicographic.{slice_cmp}
 use Rattle.std.specs.declared.cmp.Ordering.{Ordering}
 use Rattle.std.specs.declared.cmp.Ordering.TheVariants.{Less, Equal, Greater}
-use Rattle.std.proofs.lemmas.Bool.Decides.{same_from_decides}
+use Rattle.std.proofs.lemmas.Bool.Decides.{same_from_decides, nat_tests}
 use Rattle.std.proofs.lemmas.Cmp.{nat_cmp_total, tied_itself}
 use Rattle.std.proofs.lemmas.List.{get_or_default}
 use Rattle.std.proofs.lemmas.List.Folds.{Any-from_list_any, list_any-from_Any}
@@ -50,16 +50,16 @@ repeats_is rows at row r stands h =
       λ any.
           let found = Any-from_list_any test (take at rows) any in
           let k = found.0 in
-          let x = found.1.0 in
-          let within : k < at = omega (arith, long, found.1.1.0) in
+          let x = found.1 in
+          let within : k < at = omega (arith, long, found.2) in
           record {
             row = row;
             here = stands;
             earlier = k;
             is_earlier = within;
             other = x;
-            there = (omega (arith, stands.0), sym (get_or-take at rows k x within) ∙ found.1.1.1.0);
-            same = declared row.scope row.name.now x (equal (against row.scope row.name.now x) found.1.1.1.1);
+            there = (omega (arith, stands.0), sym (get_or-take at rows k x within) ∙ found.3);
+            same = declared row.scope row.name.now x (equal (against row.scope row.name.now x) found.4);
           },
       λ again.
           let same : again.row ≡ row = is_row rows at again.row row again.here stands in
@@ -73,3 +73,6 @@ repeats_is rows at row r stands h =
             ap is_eq (tied row.scope row.name.now again.other declares_same),
           ),
     )
+
+pub otherwise : (a b : ℕ) (x y : Bool) → ¬ (a ≡ b) → cond (nat_eq a b) x y ≡ y
+otherwise a b x y n = grind (arith, nat_tests)

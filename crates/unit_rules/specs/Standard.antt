@@ -1,9 +1,9 @@
 -- The names of the standard's functions and function blocks, as a test. Source: IEC 61131-3, third
 -- edition, standard functions and standard function blocks, those of this profile.
-use Rattle.std.specs.Prelude.{ℕ, Bool, true, false, ◌||◌, if◌then◌else◌, List, [], ◌∷◌, ◌++◌, flat_map, map}
+use Rattle.std.specs.Prelude.{ℕ, Bool, if◌then◌else◌, List, [], ◌∷◌, ◌++◌, flat_map, map}
 use Rattle.std.specs.List.{list_any}
 use Rattle.std.specs.Str.{bytes_eq}
-use Rattle.iec_tables.specs.Types.{name_of}
+use Rattle.iec_tables.specs.Conversions.{is_same}
 use Rattle.iec_tables.specs.Words.{raised_all}
 use Rattle.iec_tables.specs.declared.elem.Elem.{Elem}
 use Rattle.expression_types.specs.Types.{order as types}
@@ -21,7 +21,7 @@ plain_functions =
 
 -- conversions lead from each type to each other one
 abbrev pub conversion : Elem → Elem → List StandardFunction
-conversion from to = if bytes_eq (name_of from) (name_of to) then [] else function.Convert from to ∷ []
+conversion from to = if is_same from to then [] else function.Convert from to ∷ []
 
 abbrev pub conversions_from : Elem → List StandardFunction
 conversions_from from = flat_map (conversion from) types

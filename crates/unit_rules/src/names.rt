@@ -45,7 +45,6 @@ fn is_same_enumeration(a: Option<Site>, b: Option<Site>) -> bool
     }
 }
 
-#[tactic(auto, using(crate::proofs::Repeating::declares_is))]
 fn declares_same(other: &NameRow<'_, What>, row: &NameRow<'_, What>) -> bool
     ensures { result ≡ declares row.now.scope row.now.name.now other.now }
 {
@@ -81,7 +80,6 @@ fn is_further_value(rows: &[NameRow<'_, What>], at: usize, row: &NameRow<'_, Wha
 }
 
 /// Whether the scope of a row, or the enumeration of a value, has its name already.
-#[tactic(auto, using(crate::proofs::Repeating::repeats_is))]
 fn is_further(names: &Names<'_, What>, at: usize, row: &NameRow<'_, What>) -> bool
     requires { StandsAt names.now at row.now }
     ensures { result ≡ spec.is_further names.now at row.now }

@@ -134,7 +134,6 @@ fn note_spare(units: &[UnitRow<'_>], faults: &mut Faults)
     }
 }
 
-#[tactic(auto, using(crate::proofs::Noting::dropped, crate::proofs::Noting::none_left))]
 fn note_beyond(units: &[UnitRow<'_>], faults: &mut Faults)
     ensures { faults.new ≡ after faults.old
         (map spec.unit_beyond (drop spec.max_units (map bare_unit units.now))) }
