@@ -1,8 +1,8 @@
 -- Faults that are noted one after the other: the turns of loops.
 use Rattle.std.proofs.Common.{◌≡◌, ◌∙◌, ℕ, suc, ◌+◌, ◌<◌, ◌≤◌, List, [], ◌∷◌, ◌++◌, length, take, drop, get_or}
-use Rattle.std.proofs.Common.{ap, sym, refl, arith, ◌-◌, take_all, length-drop}
+use Rattle.std.proofs.Common.{ap, sym, refl, subst, arith, ◌-◌, take_all, length-drop}
 use Rattle.std.specs.Prelude.{map, flat_map}
-use Rattle.std.proofs.lemmas.List.{append-nil, map-append, append_assoc, drop-map, drop_all}
+use Rattle.std.proofs.lemmas.List.{append-nil, map-append, append_assoc, drop-map, drop_all, get_or_default}
 use Rattle.std.proofs.lemmas.Grind.{common_steps, flat_map-append}
 use Rattle.link_faults.specs.First.{after}
 use Rattle.link_faults.specs.declared.fault.LinkFault.{LinkFault}
@@ -108,3 +108,15 @@ dropped g n xs = ap (map g) (kept n xs) ∙ sym (drop-map g n xs)
 pub none_left : {X Y : Type 0} (g : X → Y) (n : ℕ) (xs : List X) → length xs ≤ n
     → drop n (map g xs) ≡ []
 none_left g n xs l = drop-map g n xs ∙ ap (map g) (drop_all n xs l)
+
+-- the same where the list is read from another one, which is it
+pub noted_in : {X : Type 0} (f : ℕ → X → List LinkFault) (xs ys : List X) (k : ℕ) (d : X)
+    (old mid new : Faults) → ys ≡ xs → k < length ys
+    → mid ≡ after old (joined (each_from f 0 (take k xs)))
+    → new ≡ after mid (f k (get_or ys k d))
+    → new ≡ after old (joined (each_from f 0 (take (k + 1) xs)))
+noted_in {X = X} f xs ys k d old mid new same l h m =
+    let within : k < length xs = subst (λ (zs : List X). k < length zs) same l in
+    let item : get_or ys k d ≡ get_or xs k (get_or ys k d) =
+    ap (λ (zs : List X). get_or zs k d) same ∙ get_or_default xs k d (get_or ys k d) within in
+    noted_at f xs k (get_or ys k d) old mid new within item h m
