@@ -63,11 +63,7 @@ fn is_same_value(other: &NameRow<'_, What>, row: &NameRow<'_, What>) -> bool
 fn row_before<'a, 't>(rows: &'a [NameRow<'t, What>], at: usize) -> Option<&'a NameRow<'t, What>>
     ensures { option_copied result ≡ spec.row_before rows.now at }
 {
-    if at == 0 {
-        None
-    } else {
-        rows.get(at - 1)
-    }
+    if at == 0 { None } else { rows.get(at - 1) }
 }
 
 fn is_further_value(rows: &[NameRow<'_, What>], at: usize, row: &NameRow<'_, What>) -> bool

@@ -84,12 +84,7 @@ fn in_priorities<M: Meaning>(
 }
 
 /// The number of a priority.
-fn priority<M: Meaning>(
-    meaning: &M,
-    file: u16,
-    faults: &mut Faults,
-    value: &Expr,
-) -> Option<Number>
+fn priority<M: Meaning>(meaning: &M, file: u16, faults: &mut Faults, value: &Expr) -> Option<Number>
     ensures { Tells (spec.priority (meant (M.names meaning.now) (M.parts meaning.now)) file
         value.now) faults.old faults.new result }
 {
@@ -107,13 +102,7 @@ fn note_priority<M: Meaning>(meaning: &M, file: u16, value: &Expr, faults: &mut 
 }
 
 /// A value that needn't be constant.
-fn note_value<M: Meaning>(
-    meaning: &M,
-    file: u16,
-    place: Place,
-    value: &Expr,
-    faults: &mut Faults,
-)
+fn note_value<M: Meaning>(meaning: &M, file: u16, place: Place, value: &Expr, faults: &mut Faults)
     ensures { faults.new ≡ after faults.old (spec.value_faults (meant (M.names meaning.now)
         (M.parts meaning.now)) file place value.now) }
 {
@@ -179,13 +168,7 @@ fn and_given(given: Given, kind: ParameterKind) -> Given
     given
 }
 
-fn note_twice(
-    file: u16,
-    given: Given,
-    kind: ParameterKind,
-    name: &Identifier,
-    faults: &mut Faults,
-)
+fn note_twice(file: u16, given: Given, kind: ParameterKind, name: &Identifier, faults: &mut Faults)
     ensures { faults.new ≡ after faults.old (fault_where (steps.gives given kind)
         (fault_at file name.now.node code.Twice)) }
 {

@@ -24,12 +24,7 @@ fn note_task<M: Meaning>(meaning: &M, file: u16, task: &Task, faults: &mut Fault
 }
 
 /// Notes what is wrong with tasks.
-pub(crate) fn note_tasks<M: Meaning>(
-    meaning: &M,
-    file: u16,
-    tasks: &[Task],
-    faults: &mut Faults,
-)
+pub(crate) fn note_tasks<M: Meaning>(meaning: &M, file: u16, tasks: &[Task], faults: &mut Faults)
     ensures { faults.new ≡ after faults.old (flat_map (spec.task_faults (meant
         (M.names meaning.now) (M.parts meaning.now)) file) tasks.now) }
 {

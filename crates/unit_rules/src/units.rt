@@ -89,8 +89,7 @@ fn has_section(kind: &UnitKind, section: SectionKind) -> bool
 fn has_place(kind: &UnitKind, section: &Section) -> bool
     ensures { result ≡ spec.has_place kind.now section.now }
 {
-    has_section(kind, section.kind)
-        && (!is_constant(section.keep) || may_be_constant(section.kind))
+    has_section(kind, section.kind) && (!is_constant(section.keep) || may_be_constant(section.kind))
 }
 
 fn note_section(file: u16, kind: &UnitKind, section: &Section, faults: &mut Faults)
@@ -114,7 +113,12 @@ fn note_unit(row: &UnitRow<'_>, faults: &mut Faults)
     ensures { faults.new ≡ after faults.old (spec.unit_faults (bare_unit row.now)) }
 {
     note_body(row.file, &row.unit.kind, &row.unit.body, faults);
-    note_sections(row.file, &row.unit.kind, row.unit.sections.as_slice(), faults);
+    note_sections(
+        row.file,
+        &row.unit.kind,
+        row.unit.sections.as_slice(),
+        faults,
+    );
 }
 
 fn note_all(units: &[UnitRow<'_>], faults: &mut Faults)

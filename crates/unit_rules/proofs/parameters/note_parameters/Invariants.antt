@@ -13,6 +13,6 @@ invariant-loop-parameter g l =
     let done = take l.parameter-index l.parameters in
     record {
       noted : l.faults ≡ after l.fn.faults
-      (joined (each_from (parameter_faults m l.file l.parameters) 0 done));
+          (joined (each_from (parameter_faults m l.file l.parameters) 0 done));
       given : l.given ≡ given_in done;
     }
