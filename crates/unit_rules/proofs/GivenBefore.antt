@@ -1,5 +1,6 @@
 -- Parameters of a task behind those that are given.
-use Rattle.std.proofs.Common.{◌≡◌, ◌∙◌, ℕ, ◌+◌, ◌<◌, Bool, true, false, ◌||◌, cond, List, [], ◌∷◌, ◌++◌, length, take, get_or, Option, Some, None}
+use Rattle.std.proofs.Common.{◌≡◌, ◌∙◌, ℕ, ◌+◌, ◌<◌, Bool, true, false, ◌||◌, cond, List, []}
+use Rattle.std.proofs.Common.{◌∷◌, ◌++◌, length, take, get_or, Option, Some, None}
 use Rattle.std.proofs.Common.{ap, sym, refl, subst, arith, nat_eq, nat_lt}
 use Rattle.std.specs.List.{list_any}
 use Rattle.std.specs.Str.{bytes_eq}
@@ -17,7 +18,9 @@ use Rattle.link_faults.specs.declared.fault.Faults.{Faults}
 use Rattle.expression_types.specs.Meanings.{Meanings}
 use Rattle.expression_types.specs.declared.judged.Place.TheVariants as place
 use Rattle.unit_rules.specs.Noted.{fault_at, fault_where}
-use Rattle.unit_rules.specs.Parameters.{same_names, parameter_kind, is_given, twice_faults, kind_faults, parameter_faults, unknown_faults, value_faults}
+use Rattle.unit_rules.specs.Parameters.{same_names, parameter_kind, is_given, twice_faults}
+use Rattle.unit_rules.specs.Parameters.{kind_faults, parameter_faults, unknown_faults}
+use Rattle.unit_rules.specs.Parameters.{value_faults}
 use Rattle.unit_rules.specs.steps.Given.{given_in, and_given, noted_of}
 use Rattle.unit_rules.specs.declared.parameters.Given.{Given}
 use Rattle.unit_rules.specs.declared.parameters.ParameterKind.{ParameterKind}
@@ -95,7 +98,8 @@ known_word : (m : Meanings) (file : ℕ) (before : List Parameter) (x : Paramete
     ≡ after old (fault_where (is_given before word) (fault_at file x.name.node code.Twice)
     ++ kind_faults m file x k)
 known_word m file before x old word k h =
-    ap (λ (b : Bool). after old (fault_where b (fault_at file x.name.node code.Twice) ++ kind_faults m file x k))
+    ap (λ (b : Bool). after old
+    (fault_where b (fault_at file x.name.node code.Twice) ++ kind_faults m file x k))
     (given_same before x.name.name word h)
 
 other_word : (m : Meanings) (file : ℕ) (x : Parameter) (old : Faults) (b : Bool)

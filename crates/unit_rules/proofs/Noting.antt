@@ -1,8 +1,10 @@
 -- Faults that are noted one after the other: the turns of loops.
-use Rattle.std.proofs.Common.{◌≡◌, ◌∙◌, ℕ, suc, ◌+◌, ◌<◌, ◌≤◌, List, [], ◌∷◌, ◌++◌, length, take, drop, get_or}
+use Rattle.std.proofs.Common.{◌≡◌, ◌∙◌, ℕ, suc, ◌+◌, ◌<◌, ◌≤◌, List, [], ◌∷◌, ◌++◌, length, take}
+use Rattle.std.proofs.Common.{drop, get_or}
 use Rattle.std.proofs.Common.{ap, sym, refl, subst, arith, ◌-◌, take_all, length-drop}
 use Rattle.std.specs.Prelude.{map, flat_map}
-use Rattle.std.proofs.lemmas.List.{append-nil, map-append, append_assoc, drop-map, drop_all, get_or_default}
+use Rattle.std.proofs.lemmas.List.{append-nil, map-append, append_assoc, drop-map, drop_all}
+use Rattle.std.proofs.lemmas.List.{get_or_default}
 use Rattle.std.proofs.lemmas.Grind.{common_steps, flat_map-append}
 use Rattle.link_faults.specs.First.{after}
 use Rattle.link_faults.specs.declared.fault.LinkFault.{LinkFault}

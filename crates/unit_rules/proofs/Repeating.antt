@@ -1,5 +1,6 @@
 -- Rows that declare a name already.
-use Rattle.std.proofs.Common.{◌≡◌, ◌∙◌, ℕ, ◌<◌, ◌≤◌, Bool, true, false, cond, nat_eq, List, length, take, get_or, IsTrue}
+use Rattle.std.proofs.Common.{◌≡◌, ◌∙◌, ℕ, ◌<◌, ◌≤◌, Bool, true, false, cond, nat_eq, List}
+use Rattle.std.proofs.Common.{length, take, get_or, IsTrue}
 use Rattle.std.proofs.Common.{ap, sym, refl, subst, arith, get_or-take, length-take-le}
 use Rattle.std.specs.Prelude.{◌↔◌}
 use Rattle.std.specs.List.{list_any}
@@ -59,7 +60,8 @@ repeats_is rows at row r stands h =
             is_earlier = within;
             other = x;
             there = (omega (arith, stands.0), sym (get_or-take at rows k x within) ∙ found.3);
-            same = declared row.scope row.name.now x (equal (against row.scope row.name.now x) found.4);
+            same = declared row.scope row.name.now x
+                (equal (against row.scope row.name.now x) found.4);
           },
       λ again.
           let same : again.row ≡ row = is_row rows at again.row row again.here stands in

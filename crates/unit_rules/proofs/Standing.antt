@@ -1,5 +1,6 @@
 -- The test for names of the standard says what the tables of the standard say.
-use Rattle.std.proofs.Common.{◌≡◌, ◌∙◌, ◌⊎◌, inl, inr, ℕ, suc, Bool, true, false, cond, List, [], ◌∷◌, ◌++◌, map, Option, Some, None, IsTrue, true≢false}
+use Rattle.std.proofs.Common.{◌≡◌, ◌∙◌, ◌⊎◌, inl, inr, ℕ, suc, Bool, true, false, cond, List, []}
+use Rattle.std.proofs.Common.{◌∷◌, ◌++◌, map, Option, Some, None, IsTrue, true≢false}
 use Rattle.std.proofs.Common.{ap, sym, refl, subst}
 use Rattle.std.specs.Prelude.{◌↔◌, flat_map, ◌||◌}
 use Rattle.std.specs.List.{list_any}
@@ -20,7 +21,8 @@ use Rattle.standard_names.specs.declared.function.StandardFunction.TheVariants a
 use Rattle.standard_names.specs.declared.block.StandardBlock.{StandardBlock}
 use Rattle.standard_names.specs.declared.block.StandardBlock.TheVariants as block
 use Rattle.standard_names.proofs.Names.{elems-alike}
-use Rattle.unit_rules.specs.Standard.{plain_functions, conversion, conversions_from, functions, blocks, standard_names, is_standard_name}
+use Rattle.unit_rules.specs.Standard.{plain_functions, conversion, conversions_from, functions}
+use Rattle.unit_rules.specs.Standard.{blocks, standard_names, is_standard_name}
 
 -- ---- members of lists
 

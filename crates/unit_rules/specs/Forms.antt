@@ -1,6 +1,7 @@
--- What units may not have. Source: this profile: how many units a project may have, what functions may
--- be, and which sections of variables stand in which units.
-use Rattle.std.specs.Prelude.{ℕ, Bool, true, false, ◌&&◌, ◌||◌, not, List, [], ◌∷◌, ◌++◌, map, flat_map, drop, Option, Some, None}
+-- What units may not have. Source: this profile: how many units a project may have, what functions
+-- may be, and which sections of variables stand in which units.
+use Rattle.std.specs.Prelude.{ℕ, Bool, true, false, ◌&&◌, ◌||◌, not, List, [], ◌∷◌, ◌++◌, map}
+use Rattle.std.specs.Prelude.{flat_map, drop, Option, Some, None}
 use Rattle.st_tree.specs.declared.chart.Sfc.{Sfc}
 use Rattle.st_tree.specs.declared.declaration.Keep.{Keep}
 use Rattle.st_tree.specs.declared.declaration.Keep.TheVariants as keep
@@ -33,8 +34,8 @@ body_faults file UnitKind.Program body = []
 
 -- ---- sections
 
--- A function has no outputs beside its result, and sees no variables of others; a program has nobody
--- that hands it variables to be changed.
+-- A function has no outputs beside its result, and sees no variables of others; a program has
+-- nobody that hands it variables to be changed.
 abbrev pub function_has : SectionKind → Bool
 function_has section.Var = true
 function_has section.Input = true
@@ -75,7 +76,8 @@ abbrev pub has_place : UnitKind → Section → Bool
 has_place kind x = has_section kind x.kind && (not (is_constant x.keep) || may_be_constant x.kind)
 
 abbrev pub section_faults : ℕ → UnitKind → Section → List LinkFault
-section_faults file kind x = fault_where (not (has_place kind x)) (fault_at file x.node code.OutOfProfile)
+section_faults file kind x =
+    fault_where (not (has_place kind x)) (fault_at file x.node code.OutOfProfile)
 
 -- ---- units
 

@@ -1,5 +1,5 @@
--- Faults at nodes of files, as lists. A list of faults stands for a collection: their order plays no
--- part in which one is the first.
+-- Faults at nodes of files, as lists. A list of faults stands for a collection: their order plays
+-- no part in which one is the first.
 use Rattle.std.specs.Prelude.{ℕ, Bool, if◌then◌else◌, List, [], ◌∷◌}
 use Rattle.st_tree.specs.declared.node.Node.{Node}
 use Rattle.link_faults.specs.declared.code.LinkCode.{LinkCode}

@@ -1,7 +1,8 @@
--- What stands in the parentheses of tasks. Source: IEC 61131-3, tasks, as this profile narrows them: a
--- task has a priority, a constant from 0 to 65,535, and may have an interval and a single trigger, which
--- needn't be constant.
-use Rattle.std.specs.Prelude.{ℕ, ℤ, pos, int_le, Bool, true, false, ◌&&◌, not, if◌then◌else◌, List, [], ◌∷◌, ◌++◌, take, codes}
+-- What stands in the parentheses of tasks. Source: IEC 61131-3, tasks, as this profile narrows
+-- them: a task has a priority, a constant from 0 to 65,535, and may have an interval and a single
+-- trigger, which needn't be constant.
+use Rattle.std.specs.Prelude.{ℕ, ℤ, pos, int_le, Bool, true, false, ◌&&◌, not, if◌then◌else◌}
+use Rattle.std.specs.Prelude.{List, [], ◌∷◌, ◌++◌, take, codes}
 use Rattle.std.specs.List.{list_any}
 use Rattle.std.specs.Str.{bytes_eq}
 use Rattle.iec_tables.specs.Words.{raised_all}
@@ -95,7 +96,8 @@ parameters_faults m file xs = joined (each_from (parameter_faults m file xs) 0 x
 -- a task without a priority
 abbrev pub lacks_faults : ℕ → Task → List LinkFault
 lacks_faults file x =
-    fault_where (not (is_given x.parameters (codes "PRIORITY"))) (fault_at file x.node code.WrongCall)
+    fault_where (not (is_given x.parameters (codes "PRIORITY")))
+    (fault_at file x.node code.WrongCall)
 
 abbrev pub task_faults : Meanings → ℕ → Task → List LinkFault
 task_faults m file x = parameters_faults m file x.parameters ++ lacks_faults file x

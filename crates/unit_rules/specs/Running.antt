@@ -1,7 +1,8 @@
--- Configurations, their resources, tasks and program lines. Source: IEC 61131-3, configuration elements,
--- as this profile narrows them: a project has one configuration, with one resource at most, and each
--- program runs under a task.
-use Rattle.std.specs.Prelude.{ℕ, Bool, true, false, not, List, [], ◌∷◌, ◌++◌, map, flat_map, drop, slice_get, Option, Some, None}
+-- Configurations, their resources, tasks and program lines. Source: IEC 61131-3, configuration
+-- elements, as this profile narrows them: a project has one configuration, with one resource at
+-- most, and each program runs under a task.
+use Rattle.std.specs.Prelude.{ℕ, Bool, true, false, not, List, [], ◌∷◌, ◌++◌, map, flat_map}
+use Rattle.std.specs.Prelude.{drop, slice_get, Option, Some, None}
 use Rattle.st_tree.specs.declared.expression.Identifier.{Identifier}
 use Rattle.st_tree.specs.declared.file.Config.{Config}
 use Rattle.st_tree.specs.declared.file.ProgramLine.{ProgramLine}
@@ -115,8 +116,9 @@ further_config file x = fault_at file x.name.node code.Twice
 abbrev pub further_configs : ℕ → SourceTree → List LinkFault
 further_configs file tree = map (further_config file) tree.config
 
--- Of files in the order of the project: each configuration but the first one is one too many, and what
--- each of them holds is judged.
+-- Of files in the order of the project: each configuration but the first one is one too many, and
+-- what each of them holds is judged.
 abbrev pub configurations_faults : Meanings → Outer → List SourceTree → List LinkFault
 configurations_faults m p trees =
-    drop 1 (joined (each_from further_configs 0 trees)) ++ joined (each_from (configs_faults m p) 0 trees)
+    drop 1 (joined (each_from further_configs 0 trees))
+    ++ joined (each_from (configs_faults m p) 0 trees)

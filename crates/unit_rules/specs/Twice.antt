@@ -1,11 +1,12 @@
--- Names that a scope may not declare: one that it declares already, or one of the standard. Source:
--- IEC 61131-3, scopes of identifiers, as this profile narrows them: units, types and the names of the
--- standard share one scope, in which the standard's are declared before all others.
+-- Names that a scope may not declare: one that it declares already, or one of the standard.
+-- Source: IEC 61131-3, scopes of identifiers, as this profile narrows them: units, types and the
+-- names of the standard share one scope, in which the standard's are declared before all others.
 --
--- The names of a project stand in one table, in the order of scope, name with its letters raised, file
--- and node. So before a row stand all rows that declare its name in its scope and come before it by
--- file and node.
-use Rattle.std.specs.Prelude.{ℕ, ◌-◌, Bool, false, ◌&&◌, ◌||◌, if◌then◌else◌, nat_eq, List, [], ◌∷◌, take, slice_get, Option, Some, None}
+-- The names of a project stand in one table, in the order of scope, name with its letters raised,
+-- file and node. So before a row stand all rows that declare its name in its scope and come before
+-- it by file and node.
+use Rattle.std.specs.Prelude.{ℕ, ◌-◌, Bool, false, ◌&&◌, ◌||◌, if◌then◌else◌, nat_eq, List, []}
+use Rattle.std.specs.Prelude.{◌∷◌, take, slice_get, Option, Some, None}
 use Rattle.std.specs.List.{list_any}
 use Rattle.st_tree.specs.declared.node.Site.{Site}
 use Rattle.scope_names.specs.declared.names.NameRow.{NameRow}
@@ -65,10 +66,10 @@ is_same_value (Some other) row = same_value other row
 
 -- ---- all names
 
--- All enumerations share the scope of their values, and one may have the name of a value of another. An
--- enumeration is one piece of the text, and the rows of one name stand in the order of the text: so the
--- values of one name in one enumeration stand side by side, and the row directly before a value tells
--- whether its enumeration has the name already.
+-- All enumerations share the scope of their values, and one may have the name of a value of
+-- another. An enumeration is one piece of the text, and the rows of one name stand in the order of
+-- the text: so the values of one name in one enumeration stand side by side, and the row directly
+-- before a value tells whether its enumeration has the name already.
 abbrev pub is_further : List Row → ℕ → Row → Bool
 is_further rows at row =
     if nat_eq row.scope scope.VALUES then is_same_value (row_before rows at) row

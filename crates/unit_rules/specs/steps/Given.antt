@@ -1,6 +1,6 @@
--- A step on the way from the code to `Parameters`: which of the three parameters are given before. Of
--- any other name it isn't kept whether it is given, since such a parameter is unknown at the same node,
--- and that comes before a second one.
+-- A step on the way from the code to `Parameters`: which of the three parameters are given before.
+-- Of any other name it isn't kept whether it is given, since such a parameter is unknown at the
+-- same node, and that comes before a second one.
 use Rattle.std.specs.Prelude.{ℕ, Bool, true, false, List, ◌++◌, codes}
 use Rattle.st_tree.specs.declared.file.Parameter.{Parameter}
 use Rattle.link_faults.specs.declared.code.LinkCode.TheVariants as code
@@ -38,4 +38,5 @@ and_given given kind.Other = given
 -- what is noted of a parameter, behind those that are given
 abbrev pub noted_of : Meanings → ℕ → Given → ParameterKind → Parameter → List LinkFault
 noted_of m file given kind x =
-    fault_where (gives given kind) (fault_at file x.name.node code.Twice) ++ kind_faults m file x kind
+    fault_where (gives given kind) (fault_at file x.name.node code.Twice)
+    ++ kind_faults m file x kind

@@ -11,11 +11,13 @@ pub loop-place-preserved : goal.loop-place-preserved
 loop-place-preserved g c =
     let m = meant (g.M.Names.names c.args.meaning.now) (g.M.Meaning.parts c.args.meaning.now) in
     let p = outer c.args.names.now c.args.units.now in
+    let configs = c.index-files-place.result.config in
+    let file = c.file_number-file.result in
     let old = c.loop-place.faults in
     let new = c.note_configs.new.faults in
     noted_at (configs_faults m p) c.args.files.now c.loop-place.place c.index-files-place.result
     _ _ _ (omega arith) c.index-files-place.is c.loop-place.invariant
-    (subst (λ (n : ℕ). new ≡ after old (flat_map (config_faults m p n) c.index-files-place.result.config))
+    (subst (λ (n : ℕ). new ≡ after old (flat_map (config_faults m p n) configs))
     c.file_number-file.ensures
-    (subst (λ (l : List Config). new ≡ after old (flat_map (config_faults m p c.file_number-file.result) l))
+    (subst (λ (l : List Config). new ≡ after old (flat_map (config_faults m p file) l))
     c.as_slice.ensures c.note_configs.ensures))

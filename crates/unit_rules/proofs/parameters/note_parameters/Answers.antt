@@ -15,5 +15,6 @@ loop-parameter-preserved g c =
       noted = noted_at _ xs k x _ _ _ (omega arith) c.parameter-item.is
           c.loop-parameter.invariant.noted
           (noted_parameter _ _ xs k x _ _ _ _ before is c.note_parameter.ensures);
-      given = given_more xs k x _ _ _ (omega arith) c.parameter-item.is before is c.and_given-given.ensures;
+      given = given_more xs k x _ _ _ (omega arith) c.parameter-item.is before is
+          c.and_given-given.ensures;
     }

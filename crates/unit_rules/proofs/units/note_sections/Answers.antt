@@ -6,5 +6,6 @@ use Rattle.unit_rules.proofs.units.note_sections.Goals as goal
 pub loop-section-preserved : goal.loop-section-preserved
 loop-section-preserved c =
     noted_next (section_faults c.args.file c.args.kind.now)
-    c.args.sections.now c.loop-section.section-index c.section-item.result _ _ _ (omega arith) c.section-item.is
+    c.args.sections.now c.loop-section.section-index c.section-item.result
+    _ _ _ (omega arith) c.section-item.is
     c.loop-section.invariant c.note_section.ensures

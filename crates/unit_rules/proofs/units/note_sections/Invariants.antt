@@ -6,4 +6,5 @@ use Rattle.unit_rules.proofs.units.note_sections.Given as goal
 
 abbrev pub invariant-loop-section : goal.invariant-loop-section
 invariant-loop-section l =
-    l.faults ≡ after l.fn.faults (flat_map (section_faults l.file l.kind) (take l.section-index l.sections))
+    l.faults ≡ after l.fn.faults
+    (flat_map (section_faults l.file l.kind) (take l.section-index l.sections))
