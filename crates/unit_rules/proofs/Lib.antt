@@ -1,0 +1,5 @@
+pub mod Noting
+pub mod GivenBefore
+pub mod Further
+pub mod Repeating
+pub mod Standing

@@ -1,0 +1,12 @@
+use Rattle.std.proofs.Common.{◌≡◌, take}
+use Rattle.std.specs.Prelude.{flat_map}
+use Rattle.link_faults.specs.First.{after}
+use Rattle.expression_types.specs.Meanings.{meant}
+use Rattle.unit_rules.specs.Running.{outer, config_faults}
+use Rattle.unit_rules.proofs.configurations.note_configs.Given as goal
+
+abbrev pub invariant-loop-config : goal.invariant-loop-config
+invariant-loop-config g l =
+    let m = meant (g.M.Names.names l.meaning) (g.M.Meaning.parts l.meaning) in
+    l.faults ≡ after l.fn.faults
+    (flat_map (config_faults m (outer l.names l.units) l.file) (take l.config-index l.configs))

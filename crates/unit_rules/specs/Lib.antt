@@ -1,0 +1,7 @@
+pub mod steps
+pub mod Noted
+pub mod Standard
+pub mod Twice
+pub mod Forms
+pub mod Parameters
+pub mod Running
