@@ -63,11 +63,11 @@ next_bad xs ys (Bad fs) old mid new all found left t =
       list = left.list;
     }
 
-end_good : {A : Type 0} (xs : List (Checked A)) (found : List A) → are_good xs ≡ true
+pub end_good : {A : Type 0} (xs : List (Checked A)) (found : List A) → are_good xs ≡ true
     → goods xs ≡ found → Some found ≡ answer (all_of xs)
 end_good xs found all list = rw all (ap (λ ys. Some ys) (sym list))
 
-end_bad : {A : Type 0} (xs : List (Checked A)) → are_good xs ≡ false → None ≡ answer (all_of xs)
+pub end_bad : {A : Type 0} (xs : List (Checked A)) → are_good xs ≡ false → None ≡ answer (all_of xs)
 end_bad xs all = rw all refl
 
 pub list_end : {E A : Type 0} (f : E → Checked A) (items : List E) (i : ℕ) (old new : Faults)

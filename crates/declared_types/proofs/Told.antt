@@ -111,7 +111,7 @@ all_told true xs old mid ds e t same =
     record { first = t.first ∙ ap (after old) (good_have_none xs e); answer = same }
 all_told false xs old mid ds e t same = record { first = t.first; answer = same }
 
-list_told : {A : Type 0} (xs : List (Checked A)) (old mid : Faults) (ds : Option (List A))
+pub list_told : {A : Type 0} (xs : List (Checked A)) (old mid : Faults) (ds : Option (List A))
     → TellsList xs old mid ds → Tells (all_of xs) old mid ds
 list_told xs old mid ds t = all_told (are_good xs) xs old mid ds refl t t.list
 
