@@ -1,11 +1,11 @@
 -- Loops over what is written for the parts of an array or of a structure.
-use Rattle.std.proofs.Common.{◌≡◌, ℕ, zero, suc, ◌+◌, ◌-◌, ◌<◌, ◌≤◌, Bool, true, false, nat_le, List, [], ◌∷◌, ◌++◌, length, get_or, drop, map, Option, Some, None, Ok, Err, IfOk, OnOk, refl, sym, ap, ◌∙◌, subst, add-one, drop-cons, append_assoc, arith}
+use Rattle.std.proofs.Common.{◌≡◌, ℕ, suc, ◌+◌, ◌-◌, ◌<◌, ◌≤◌, Bool, true, false, nat_le, List, [], ◌∷◌, ◌++◌, length, get_or, drop, map, Option, Some, None, Ok, Err, IfOk, OnOk, refl, sym, ap, ◌∙◌, subst, add-one, drop-cons, append_assoc, arith}
 use Rattle.std.specs.Prelude.{if◌then◌else◌, Result}
 use Rattle.std.specs.Option.{option_to_list, option_map}
 use Rattle.std.proofs.lemmas.List.{drop_all, length-append}
 use Rattle.st_tree.specs.declared.node.Node.{Node}
 use Rattle.link_faults.specs.First.{after}
-use Rattle.link_faults.specs.Checked.{Checked, Good, Bad, faults, answer, bind, Tells}
+use Rattle.link_faults.specs.Checked.{Checked, Good, Bad, faults, bind, Tells}
 use Rattle.link_faults.specs.declared.fault.Faults.{Faults}
 use Rattle.expression_types.specs.Lists.{faults_of}
 use Rattle.expression_types.specs.steps.Several.{still_good}
@@ -24,6 +24,7 @@ use Rattle.link_faults.specs.declared.code.LinkCode.TheVariants as code
 use Rattle.link_faults.specs.declared.fault.LinkFault.{LinkFault}
 use Rattle.declared_types.specs.declared.given.Initial.TheVariants as initial
 use Rattle.declared_types.specs.Ranges.{wrong_at}
+use Rattle.project_declarations.specs.Declarations.{joined}
 use Rattle.initial_values.specs.declared.written.Run.{Run}
 use Rattle.initial_values.specs.declared.written.Part.{Part}
 use Rattle.initial_values.specs.declared.written.FieldAt.{FieldAt}
@@ -31,7 +32,7 @@ use Rattle.initial_values.specs.declared.written.Written.{Written}
 use Rattle.st_tree.specs.declared.declaration.Init.{Init}
 use Rattle.st_tree.specs.declared.declaration.Init.TheOpen.{FieldInit-F}
 use Rattle.st_tree.specs.declared.declaration.Item.{Item}
-use Rattle.st_tree.specs.declared.declaration.FieldInit.{FieldInit, rolls-FieldInit', fold-FieldInit, fold-roll-FieldInit, map-FieldInit}
+use Rattle.st_tree.specs.declared.declaration.FieldInit.{FieldInit, rolls-FieldInit', fold-roll-FieldInit, map-FieldInit}
 use Rattle.initial_values.specs.Initials.{Ground, initial_value, item_value, field_value, init_in, item_in, field_in, Made, At, ItemRead, FieldRead, run_of, run_made, runs_made, all_told, all_rows, total_of, part_for, parts_made, taken_after, field_named, none_taken, with_row, elements, elements_told, array_value, fields_row, structure_parts}
 use Rattle.initial_values.specs.steps.Telling.{Writes, room, room_after, kept, known_elements, rows_of, initial_of, fields_row as known_row}
 
@@ -338,3 +339,15 @@ pub field_name : (g : Ground) (y : FieldInit) → (field_value g y).name ≡ y.n
 field_name g y =
     ap (λ (r : FieldRead). r.name)
     (rolled_field g (record { node = y.node; name = y.name; value = y.value }))
+
+-- ---- faults of several parts
+
+pub faults_step : {E : Type 0} (f : E → List LinkFault) (items : List E) (i : ℕ) (e : E)
+    (old mid new : Faults) → i < length items → e ≡ get_or items i e
+    → after old (joined (map f items)) ≡ after mid (joined (map f (drop i items)))
+    → new ≡ after mid (f e)
+    → after old (joined (map f items)) ≡ after new (joined (map f (drop (i + 1) items)))
+faults_step f items i e old mid new lt is inv noted =
+    inv ∙ ap (λ ys. after mid (joined (map f ys))) (cut items i e lt is)
+    ∙ after_append mid (f e) (joined (map f (drop (i + 1) items)))
+    ∙ ap (λ m. after m (joined (map f (drop (i + 1) items)))) (sym noted)

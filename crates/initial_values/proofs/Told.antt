@@ -1,5 +1,5 @@
 -- What is told of parts that stand together: the lemmas of faults, under names of this crate.
-use Rattle.std.proofs.Common.{◌≡◌, Option, Some, None}
+use Rattle.std.proofs.Common.{Option, Some, None}
 use Rattle.link_faults.specs.Checked.{Checked, bind, Tells}
 use Rattle.link_faults.specs.declared.fault.Faults.{Faults}
 use Rattle.link_faults.proofs.Tells as told

@@ -16,7 +16,7 @@ use Rattle.st_tree.specs.declared.declaration.FieldInit.{FieldInit, fold-FieldIn
 use Rattle.link_faults.specs.declared.code.LinkCode.TheVariants as code
 use Rattle.link_faults.specs.declared.fault.LinkFault.{LinkFault}
 use Rattle.link_faults.specs.Checked.{Checked, Good, Bad, faults, unusable, provided, bind}
-use Rattle.expression_types.specs.Lists.{are_good, faults_of}
+use Rattle.expression_types.specs.Lists.{faults_of}
 use Rattle.expression_types.specs.declared.meaning.ShapeNo.{ShapeNo}
 use Rattle.declared_types.specs.Around.{Around}
 use Rattle.declared_types.specs.Ranges.{site_of, wrong_at, all_of}

@@ -10,13 +10,13 @@ ghost use Rattle.initial_values.specs.Initials as written_by;
 ghost use Rattle.initial_values.specs.steps.Telling.{Writes, ground};
 
 use crate::elements::{add_row, add_run, array_in, elements_known, room_left};
-use crate::fields::{
-    add_part, field_named, fields_in, fields_known, is_taken, none_taken, take,
-};
+use crate::fields::{add_part, field_named, fields_in, fields_known, is_taken, none_taken, take};
 use crate::nodes::node_of;
 use crate::outside::Counts;
 use crate::written::{FieldAt, Part, Written};
-use declared_types::{ArrayForm, Bounds, ConstantPlace, DeclType, FieldForm, Form, Given, Initial, Outside};
+use declared_types::{
+    ArrayForm, Bounds, ConstantPlace, DeclType, FieldForm, Form, Given, Initial, Outside,
+};
 use link_faults::{Faults, LinkCode};
 use st_tree::{Expr, FieldInit, Init, Item, Node, Number, Site};
 use station_ports::outside::NoMemory;
@@ -122,7 +122,16 @@ pub fn initial_value<C: Counts>(
         Init::Value(e) => Ok(value_of(outside, faults, given.ty, e.get())),
         Init::Array(node, items) => match array_in(forms, given.ty) {
             None => Ok(wrong(outside, faults, *node, LinkCode::WrongType)),
-            Some(array) => elements(alloc, outside, forms, rows, faults, *node, array, items.as_slice()),
+            Some(array) => elements(
+                alloc,
+                outside,
+                forms,
+                rows,
+                faults,
+                *node,
+                array,
+                items.as_slice(),
+            ),
         },
         Init::Structure(node, list) => match fields_in(forms, given.ty) {
             None => Ok(wrong(outside, faults, *node, LinkCode::WrongType)),
@@ -147,7 +156,9 @@ fn item_value<C: Counts>(
 {
     match item {
         Item::One(init) => initial_value(alloc, outside, forms, rows, faults, element, init),
-        Item::Repeated(_, _, init) => initial_value(alloc, outside, forms, rows, faults, element, init),
+        Item::Repeated(_, _, init) => initial_value(
+            alloc, outside, forms, rows, faults, element, init,
+        ),
     }
 }
 
@@ -230,7 +241,16 @@ fn part<C: Counts>(
     match at {
         None => Ok(wrong(outside, faults, field.name.node, LinkCode::Unknown)),
         Some(at) => {
-            part_at(alloc, outside, forms, rows, faults, is_taken(taken, at.place), at, field)
+            part_at(
+                alloc,
+                outside,
+                forms,
+                rows,
+                faults,
+                is_taken(taken, at.place),
+                at,
+                field,
+            )
         },
     }
 }

@@ -1,6 +1,6 @@
 -- What a call tells of an initial value that adds rows to the table of written values: a step on the way.
 use Rattle.std.specs.Prelude.{◌≡◌, ℕ, ◌-◌, Bool, true, false, map, nat_le, if◌then◌else◌, List, [], ◌∷◌, ◌++◌, Option, Some, None}
-use Rattle.link_faults.specs.Checked.{Checked, Good, Bad, Tells, wrong, unusable}
+use Rattle.link_faults.specs.Checked.{Checked, Good, Tells, unusable}
 use Rattle.link_faults.specs.declared.code.LinkCode.TheVariants as code
 use Rattle.link_faults.specs.declared.fault.Faults.{Faults}
 use Rattle.st_tree.specs.declared.node.Node.{Node}
