@@ -1,0 +1,4 @@
+pub mod steps
+pub mod Around
+pub mod Ranges
+pub mod Specifications
