@@ -1,0 +1,9 @@
+//! What declarations give: types, and initial values of what is declared.
+#![tactic(auto)]
+
+mod initialised;
+mod located;
+mod outside;
+
+pub use located::{result_type, variables};
+pub use outside::Declares;
