@@ -1,5 +1,5 @@
 -- What is told of parts that stand together: the lemmas of faults, under names of this crate.
-use Rattle.std.proofs.Common.{◌≡◌, ℕ, Bool, true, false, List, ◌++◌, Option, Some, None, Ok, Err, IfOk, sym, ap, ◌∙◌, subst}
+use Rattle.std.proofs.Common.{◌≡◌, ℕ, Bool, true, false, List, ◌++◌, Option, Some, None, Ok, Err, IfOk, sym, ap, ◌∙◌, subst, length}
 use Rattle.std.specs.Prelude.{if◌then◌else◌, Result}
 use Rattle.st_tree.specs.declared.expression.Address.{Address}
 use Rattle.st_tree.specs.declared.declaration.Init.{Init}
@@ -10,10 +10,12 @@ use Rattle.link_faults.specs.declared.code.LinkCode.TheVariants as code
 use Rattle.link_faults.specs.declared.fault.LinkFault.{LinkFault}
 use Rattle.link_faults.specs.declared.fault.Faults.{Faults}
 use Rattle.link_faults.proofs.Tells as told
+use Rattle.declared_types.proofs.Told.{bare_length}
 use Rattle.declared_types.specs.Ranges.{wrong_at}
 use Rattle.declared_types.specs.Specifications as types
 use Rattle.declared_types.specs.steps.Telling.{Makes}
 use Rattle.declared_types.specs.declared.given.Given.{Given}
+use Rattle.declared_types.specs.BareForms.{BareForm, bare_forms}
 use Rattle.declared_types.specs.declared.forms.Form.{Form}
 use Rattle.initial_values.specs.Nodes.{init_node}
 use Rattle.initial_values.specs.Initials as values
@@ -46,7 +48,7 @@ told_after a y old mid new r o t u =
 
 -- ---- initial values
 
-read_by : (b : Bool) (s : Surroundings) (forms : List Form) (before : ℕ) (i : Init)
+read_by : (b : Bool) (s : Surroundings) (forms : List BareForm) (before : ℕ) (i : Init)
     (x : Checked Given) (rows rows' : List Written) (old mid new : Faults) (r : Option Given)
     → Tells x old mid (answer x)
     → Writes (if b then values.without_rows (wrong_at s.around (init_node i) code.NotConstant)
@@ -69,7 +71,7 @@ read_by false s forms before i (Bad fs) rows rows' old mid new r t w =
       rows_are = w.rows_are;
     }
 
-read_of : (s : Surroundings) (forms : List Form) (before : ℕ) (i : Option Init)
+read_of : (s : Surroundings) (forms : List BareForm) (before : ℕ) (i : Option Init)
     (x : Checked Given) (rows rows' : List Written) (old mid new : Faults) (r : Option Given)
     → Tells x old mid (answer x)
     → Writes (known_if s forms before i (answer x)) rows rows' mid new r
@@ -87,7 +89,7 @@ read_of s forms before None (Bad fs) rows rows' old mid new r t w =
 read_of s forms before (Some i) x rows rows' old mid new r t w =
     read_by (s.leads_back i) s forms before i x rows rows' old mid new r t w
 
-read_told : (s : Surroundings) (forms : List Form) (before : ℕ) (i : Option Init)
+read_told : (s : Surroundings) (forms : List BareForm) (before : ℕ) (i : Option Init)
     (x : Checked Given) (given : Option Given) (rows rows' : List Written) (old mid new : Faults)
     (r : Option Given) → Tells x old mid given
     → Writes (known_if s forms before i given) rows rows' mid new r
@@ -101,23 +103,26 @@ read_told s forms before i x given rows rows' old mid new r t w =
 variable_gives : (s : Surroundings) (forms forms' read : List Form) (before : ℕ) (i : Option Init)
     (m : types.Made) (given : Option Given) (rows rows' : List Written) (old mid new : Faults)
     (r : Option Given) → Makes m forms forms' old mid given → read ≡ forms'
-    → Writes (known_if s read before i given) rows rows' mid new r
-    → Gives (with_init s forms before i m) forms forms' rows rows' old new r
+    → Writes (known_if s (bare_forms read) before i given) rows rows' mid new r
+    → Gives (with_init s (bare_forms forms) before i m) forms forms' rows rows' old new r
 variable_gives s forms forms' read before i m given rows rows' old mid new r t reads w =
-    let Q : List Form → Type 0 = λ fs. Writes (known_if s fs before i given) rows rows' mid new r in
-    let here : Writes (if_written s (forms ++ m.forms) before i m.told) rows rows' old new r =
-    read_told s (forms ++ m.forms) before i m.told given rows rows' old mid new r t.told
-    (subst Q (reads ∙ t.forms_are) w) in
+    let Q : List BareForm → Type 0 = λ fs. Writes (known_if s fs before i given) rows rows' mid new r in
+    let here : Writes (if_written s (bare_forms forms ++ m.forms) before i m.told) rows rows' old new r =
+    read_told s (bare_forms forms ++ m.forms) before i m.told given rows rows' old mid new r t.told
+    (subst Q (ap bare_forms reads ∙ t.forms_are) w) in
     record { told = here.told; forms_are = t.forms_are; rows_are = here.rows_are }
 
 pub variable_ok : {E : Type 0} (s : Surroundings) (forms forms' read : List Form) (before : ℕ)
-    (i : Option Init) (m : types.Made) (given : Option Given) (rows rows' : List Written)
-    (old mid new : Faults) (result : Result (Option Given) E) → Makes m forms forms' old mid given
-    → read ≡ forms'
-    → IfOk result (λ it. Writes (known_if s read before i given) rows rows' mid new it)
-    → IfOk result (λ it. Gives (with_init s forms before i m) forms forms' rows rows' old new it)
+    (i : Option Init) (m : ℕ → types.Made) (given : Option Given) (rows rows' : List Written)
+    (old mid new : Faults) (result : Result (Option Given) E)
+    → Makes (m (length forms)) forms forms' old mid given → read ≡ forms'
+    → IfOk result (λ it. Writes (known_if s (bare_forms read) before i given) rows rows' mid new it)
+    → IfOk result (λ it. Gives (with_init s (bare_forms forms) before i (m (length (bare_forms forms))))
+    forms forms' rows rows' old new it)
 variable_ok s forms forms' read before i m given rows rows' old mid new (Ok it) t reads w =
-    variable_gives s forms forms' read before i m given rows rows' old mid new it t reads w
+    let P : ℕ → Type 0 = λ n. Makes (m n) forms forms' old mid given in
+    variable_gives s forms forms' read before i (m (length (bare_forms forms))) given rows rows' old mid
+    new it (subst P (sym (bare_length forms)) t) reads w
 variable_ok s forms forms' read before i m given rows rows' old mid new (Err x) t reads w = tt
 
 -- ---- addresses

@@ -19,6 +19,7 @@ use Rattle.declared_types.specs.declared.given.DeclType.TheVariants as ty
 use Rattle.declared_types.specs.declared.given.Initial.{Initial}
 use Rattle.declared_types.specs.declared.given.Given.{Given}
 use Rattle.declared_types.specs.declared.forms.Form.{Form}
+use Rattle.declared_types.specs.BareForms.{BareForm}
 use Rattle.initial_values.specs.Nodes.{init_node}
 use Rattle.initial_values.specs.Initials as values
 use Rattle.initial_values.specs.declared.written.Written.{Written}
@@ -37,7 +38,7 @@ pub record Surroundings : Type 0 where
 -- What a declaration gives, and the rows that it adds to both tables.
 pub record Made : Type 0 where
   pub told : Checked Given
-  pub forms : List Form
+  pub forms : List BareForm
   pub rows : List Written
 
 abbrev pub bare : Checked Given → Made
@@ -45,14 +46,14 @@ bare x = record { told = x; forms = []; rows = [] }
 
 -- ---- types with initial values
 
-abbrev pub ground : Surroundings → List Form → values.Ground
+abbrev pub ground : Surroundings → List BareForm → values.Ground
 ground s forms = record { around = s.around; repeats = s.repeats; forms = forms }
 
 abbrev pub valued : Given → Initial → Given
 valued g v = record { ty = g.ty; value = v; size = g.size }
 
 -- an initial value for what has a type, or has none, where there are so many rows before
-abbrev pub with_value : Surroundings → List Form → ℕ → Init → Checked Given → values.Made Given
+abbrev pub with_value : Surroundings → List BareForm → ℕ → Init → Checked Given → values.Made Given
 with_value s forms before i (Good g) =
     record {
       told = bind (values.initial_value (ground s forms) i g before).told (λ v. Good (valued g v));
@@ -66,16 +67,16 @@ not_constant s i told =
     values.without_rows (Bad (faults told
     ++ faults {A = Given} (wrong_at s.around (init_node i) code.NotConstant)))
 
-abbrev pub written : Surroundings → List Form → ℕ → Init → Checked Given → values.Made Given
+abbrev pub written : Surroundings → List BareForm → ℕ → Init → Checked Given → values.Made Given
 written s forms before i told =
     if s.leads_back i then not_constant s i told else with_value s forms before i told
 
-abbrev pub if_written : Surroundings → List Form → ℕ → Option Init → Checked Given → values.Made Given
+abbrev pub if_written : Surroundings → List BareForm → ℕ → Option Init → Checked Given → values.Made Given
 if_written s forms before None told = values.without_rows told
 if_written s forms before (Some i) told = written s forms before i told
 
 -- what is made of a type's specification, once its initial value is read
-abbrev pub with_init : Surroundings → List Form → ℕ → Option Init → types.Made → Made
+abbrev pub with_init : Surroundings → List BareForm → ℕ → Option Init → types.Made → Made
 with_init s forms before i m =
     record {
       told = (if_written s (forms ++ m.forms) before i m.told).told;
@@ -84,7 +85,7 @@ with_init s forms before i m =
     }
 
 -- a specification with its initial value, where there are these forms and so many rows before
-abbrev pub variable : Surroundings → Bool → List Form → ℕ → Spec → Option Init → Made
+abbrev pub variable : Surroundings → Bool → List BareForm → ℕ → Spec → Option Init → Made
 variable s may_be forms before spec i =
     with_init s forms before i (types.made s.around spec may_be (length forms))
 
@@ -121,7 +122,7 @@ located s may_stand d m =
     }
 
 -- variables that are declared together, at an address or at none
-abbrev pub variables : Surroundings → Bool → Bool → List Form → ℕ → Decl → Made
+abbrev pub variables : Surroundings → Bool → Bool → List BareForm → ℕ → Decl → Made
 variables s may_be may_stand forms before d =
     located s may_stand d (variable s may_be forms before d.spec d.init)
 

@@ -4,6 +4,7 @@ ghost use Rattle.std.specs.Prelude.{◌≡◌, length, IfOk};
 ghost use Rattle.link_faults.specs.Checked.{Tells};
 ghost use Rattle.declared_types.specs.Ranges.{wrong_at};
 ghost use Rattle.initial_values.specs.steps.Telling.{Writes};
+ghost use Rattle.declared_types.specs.BareForms.{bare_forms};
 ghost use Rattle.declaration_rules.specs.Declarations as gives;
 ghost use Rattle.declaration_rules.specs.steps.Telling.{Gives, around_of, known_value, known_written, known_if};
 
@@ -45,7 +46,7 @@ fn with_value<D: Declares>(
     init: &Init,
 ) -> Result<Option<Given>, NoMemory>
     ensures { IfOk result (λ it. Writes (known_value (around_of (D.around outside.now) (D.repeats outside.now)
-        (D.leads outside.now) (D.twice outside.now) (D.holds outside.now)) forms.now
+        (D.leads outside.now) (D.twice outside.now) (D.holds outside.now)) (bare_forms forms.now)
         (length rows.old.items) init.now given) rows.old.items rows.new.items faults.old faults.new it) }
 {
     match given {
@@ -77,7 +78,7 @@ fn written<D: Declares>(
     init: &Init,
 ) -> Result<Option<Given>, NoMemory>
     ensures { IfOk result (λ it. Writes (known_written (around_of (D.around outside.now) (D.repeats outside.now)
-        (D.leads outside.now) (D.twice outside.now) (D.holds outside.now)) forms.now
+        (D.leads outside.now) (D.twice outside.now) (D.holds outside.now)) (bare_forms forms.now)
         (length rows.old.items) init.now given) rows.old.items rows.new.items faults.old faults.new it) }
 {
     if outside.leads_back(init) {
@@ -97,7 +98,7 @@ fn if_written<D: Declares>(
     init: &Option<Init>,
 ) -> Result<Option<Given>, NoMemory>
     ensures { IfOk result (λ it. Writes (known_if (around_of (D.around outside.now) (D.repeats outside.now)
-        (D.leads outside.now) (D.twice outside.now) (D.holds outside.now)) forms.now
+        (D.leads outside.now) (D.twice outside.now) (D.holds outside.now)) (bare_forms forms.now)
         (length rows.old.items) init.now given) rows.old.items rows.new.items faults.old faults.new it) }
 {
     match init {
@@ -118,7 +119,7 @@ pub(crate) fn variable<'t, D: Declares>(
     init: &Option<Init>,
 ) -> Result<Option<Given>, NoMemory>
     ensures { IfOk result (λ it. Gives (gives.variable (around_of (D.around outside.now) (D.repeats outside.now)
-        (D.leads outside.now) (D.twice outside.now) (D.holds outside.now)) may_be forms.old.items
+        (D.leads outside.now) (D.twice outside.now) (D.holds outside.now)) may_be (bare_forms forms.old.items)
         (length rows.old.items) spec.now init.now) forms.old.items forms.new.items rows.old.items
         rows.new.items faults.old faults.new it) }
 {

@@ -2,6 +2,7 @@
 
 ghost use Rattle.std.specs.Prelude.{◌≡◌, length, IfOk};
 ghost use Rattle.link_faults.specs.Checked.{Tells};
+ghost use Rattle.declared_types.specs.BareForms.{bare_forms};
 ghost use Rattle.declaration_rules.specs.Declarations as gives;
 ghost use Rattle.declaration_rules.specs.steps.Telling.{Gives, around_of, known_at};
 
@@ -93,7 +94,7 @@ pub fn variables<'t, D: Declares>(
     decl: &Decl,
 ) -> Result<Option<Given>, NoMemory>
     ensures { IfOk result (λ it. Gives (gives.variables (around_of (D.around outside.now) (D.repeats outside.now)
-        (D.leads outside.now) (D.twice outside.now) (D.holds outside.now)) may_be may_stand forms.old.items
+        (D.leads outside.now) (D.twice outside.now) (D.holds outside.now)) may_be may_stand (bare_forms forms.old.items)
         (length rows.old.items) decl.now) forms.old.items forms.new.items rows.old.items
         rows.new.items faults.old faults.new it) }
 {

@@ -1,5 +1,5 @@
 -- What is told of parts that stand together: the lemmas of faults, under names of this crate.
-use Rattle.std.proofs.Common.{◌≡◌, ℕ, ◌∷◌, [], ◌++◌, List, Bool, true, false, Option, Some, None, Ok, Err, IfOk, OnOk, refl, sym, ap, ◌∙◌, subst, length, nat_lt, ◌+◌, append_assoc}
+use Rattle.std.proofs.Common.{◌≡◌, ℕ, suc, ◌∷◌, [], ◌++◌, List, Bool, true, false, Option, Some, None, Ok, Err, IfOk, OnOk, refl, sym, ap, ◌∙◌, subst, length, nat_lt, ◌+◌, append_assoc}
 use Rattle.std.proofs.lemmas.List.{length-append}
 use Rattle.std.specs.Prelude.{if◌then◌else◌, Result}
 use Rattle.std.proofs.lemmas.Bool.{false≢true}
@@ -24,7 +24,7 @@ use Rattle.declared_types.specs.declared.given.Given.{Given}
 use Rattle.declared_types.specs.declared.forms.Dim.{Dim}
 use Rattle.declared_types.specs.declared.forms.ArrayForm.{ArrayForm}
 use Rattle.declared_types.specs.declared.forms.Form.{Form}
-use Rattle.declared_types.specs.declared.forms.Form.TheVariants as form
+use Rattle.declared_types.specs.BareForms.{BareForm, Array, bare_form, bare_forms}
 use Rattle.declared_types.specs.steps.Telling.{on_both, TellsList, known_array, Makes, rows_of, given_of}
 
 pub bind_some : {A B : Type 0} (x : Checked A) (k : A → Checked B) (old mid new : Faults) (a : A)
@@ -153,28 +153,38 @@ array_told o node ranges n element old mid mid' new ds e r same t u v =
 
 -- ---- rows of the table of forms
 
-at_number : (before : ℕ) (forms inner : List Form) → before ≡ length forms
-    → length (forms ++ inner) ≡ before + length inner
-at_number before forms inner same = length-append forms inner ∙ ap (λ n. n + length inner) (sym same)
+pub bare_append : (forms more : List Form) → bare_forms (forms ++ more) ≡ bare_forms forms ++ bare_forms more
+bare_append [] more = refl
+bare_append (f ∷ forms) more = ap (λ fs. bare_form f ∷ fs) (bare_append forms more)
 
-array_adds : (before : ℕ) (told : Checked ArrayForm) (forms inner : List Form)
+pub bare_length : (forms : List Form) → length (bare_forms forms) ≡ length forms
+bare_length [] = refl
+bare_length (f ∷ forms) = ap suc (bare_length forms)
+
+at_number : (before : ℕ) (forms mid : List Form) (inner : List BareForm) → before ≡ length forms
+    → bare_forms mid ≡ bare_forms forms ++ inner → length mid ≡ before + length inner
+at_number before forms mid inner same is =
+    sym (bare_length mid) ∙ ap length is ∙ length-append (bare_forms forms) inner
+    ∙ ap (λ n. n + length inner) (bare_length forms ∙ sym same)
+
+array_adds : (before : ℕ) (told : Checked ArrayForm) (forms mid : List Form) (inner : List BareForm)
     (old new : Faults) (r : Option ArrayForm) → Tells told old new r → before ≡ length forms
-    → Makes (array_made before inner told) forms ((forms ++ inner) ++ rows_of r) old new
-    (given_of (length (forms ++ inner)) r)
-array_adds before (Good a) forms inner old new r t same =
+    → bare_forms mid ≡ bare_forms forms ++ inner
+    → Makes (array_made before inner told) forms (mid ++ rows_of r) old new (given_of (length mid) r)
+array_adds before (Good a) forms mid inner old new r t same is =
     record {
       told = record {
         first = t.first;
-        answer = ap (given_of (length (forms ++ inner))) t.answer
-            ∙ ap (λ n. Some (array_given n a)) (at_number before forms inner same);
+        answer = ap (given_of (length mid)) t.answer
+            ∙ ap (λ n. Some (array_given n a)) (at_number before forms mid inner same is);
       };
-      forms_are = ap (λ x. (forms ++ inner) ++ rows_of x) t.answer
-          ∙ append_assoc forms inner (form.Array a ∷ []);
+      forms_are = ap (λ x. bare_forms (mid ++ rows_of x)) t.answer ∙ bare_append mid (rows_of (Some a))
+          ∙ ap (λ fs. fs ++ (Array a ∷ [])) is ∙ append_assoc (bare_forms forms) inner (Array a ∷ []);
     }
-array_adds before (Bad fs) forms inner old new r t same =
+array_adds before (Bad fs) forms mid inner old new r t same is =
     record {
-      told = record { first = t.first; answer = ap (given_of (length (forms ++ inner))) t.answer };
-      forms_are = ap (λ x. (forms ++ inner) ++ rows_of x) t.answer ∙ no_more (forms ++ inner);
+      told = record { first = t.first; answer = ap (given_of (length mid)) t.answer };
+      forms_are = ap (λ x. bare_forms (mid ++ rows_of x)) t.answer ∙ ap bare_forms (no_more mid) ∙ is;
     }
 
 array_makes : (o : Around) (node : Node) (ranges : List Range) (n : ℕ) (element : Made)
@@ -185,12 +195,8 @@ array_makes : (o : Around) (node : Node) (ranges : List Range) (n : ℕ) (elemen
     → Makes (array_at o node ranges before element) forms (mid_forms ++ rows_of r) old new
     (given_of (length mid_forms) r)
 array_makes o node ranges n element before forms mid_forms old f g new ds e r same are t u v =
-    let P : List Form → Type 0 =
-    λ fs. Makes (array_at o node ranges before element) forms (fs ++ rows_of r) old new
-    (given_of (length fs) r) in
-    subst P (sym u.forms_are)
-    (array_adds before (array o node ranges element.told) forms element.forms old new r
-    (array_told o node ranges n element.told old f g new ds e r are t u.told v) same)
+    array_adds before (array o node ranges element.told) forms mid_forms element.forms old new r
+    (array_told o node ranges n element.told old f g new ds e r are t u.told v) same u.forms_are
 
 array_ok_of : {E : Type 0} (o : Around) (node : Node) (ranges : List Range) (n : ℕ) (element : Made)
     (before : ℕ) (forms mid_forms new_forms : List Form) (result : Result (Option Given) E)

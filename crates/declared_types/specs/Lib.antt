@@ -1,4 +1,5 @@
 pub mod steps
 pub mod Around
+pub mod BareForms
 pub mod Ranges
 pub mod Specifications

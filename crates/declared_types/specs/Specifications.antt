@@ -23,8 +23,8 @@ use Rattle.declared_types.specs.declared.given.Initial.TheVariants as initial
 use Rattle.declared_types.specs.declared.given.Given.{Given}
 use Rattle.declared_types.specs.declared.forms.Dim.{Dim}
 use Rattle.declared_types.specs.declared.forms.ArrayForm.{ArrayForm}
-use Rattle.declared_types.specs.declared.forms.Form.{Form}
-use Rattle.declared_types.specs.declared.forms.Form.TheVariants as form
+use Rattle.declared_types.specs.BareForms.{BareForm}
+use Rattle.declared_types.specs.BareForms as form
 use Rattle.declared_types.specs.declared.outside.ConstantPlace.TheVariants as place
 use Rattle.declared_types.specs.declared.outside.NamedType.{NamedType}
 use Rattle.declared_types.specs.declared.outside.NamedType.TheVariants as named
@@ -150,7 +150,7 @@ array o node ranges element =
 -- What a specification gives, and the rows that it adds to the table of forms.
 pub record Made : Type 0 where
   pub told : Checked Given
-  pub forms : List Form
+  pub forms : List BareForm
 
 abbrev pub without_forms : Checked Given → Made
 without_forms x = record { told = x; forms = [] }
@@ -165,7 +165,7 @@ array_given k a =
     }
 
 -- the array's row stands behind those of its elements
-abbrev pub array_made : ℕ → List Form → Checked ArrayForm → Made
+abbrev pub array_made : ℕ → List BareForm → Checked ArrayForm → Made
 array_made before inner (Good a) =
     record {
       told = Good (array_given (before + length inner) a);

@@ -15,7 +15,7 @@ use Rattle.declared_types.specs.steps.Telling.{TellsList}
 use Rattle.declared_types.specs.declared.given.Given.{Given}
 use Rattle.declared_types.specs.declared.given.Initial.{Initial}
 use Rattle.declared_types.specs.declared.forms.ArrayForm.{ArrayForm}
-use Rattle.declared_types.specs.declared.forms.FieldForm.{FieldForm}
+use Rattle.declared_types.specs.BareForms.{Field}
 use Rattle.declared_types.proofs.Lists.{LeftList, next_good, next_bad, end_good, end_bad}
 use Rattle.declared_types.proofs.Told.{list_told}
 use Rattle.initial_values.proofs.Told.{bind_some, bind_none}
@@ -251,7 +251,7 @@ runs_end {E = E} {F = F} o node f items i a rows0 rows new_rows result old mid n
 
 -- ---- structures
 
-part_step : (o : Around) (fields : List FieldForm) (xs : List (Made Part)) (x : FieldRead)
+part_step : (o : Around) (fields : List Field) (xs : List (Made Part)) (x : FieldRead)
     (rest : List FieldRead) (rows0 rows rows' : List Written) (taken : List Bool)
     (old mid new : Faults) (all : Bool) (found : List Part) (r : Option Part)
     → LeftMade xs (parts_made o fields (length rows) taken (x ∷ rest)) rows0 rows old mid all found
@@ -269,7 +269,7 @@ part_step o fields xs x rest rows0 rows rows' taken old mid new all found r left
     (next_made xs (parts_made o fields (length rows + length m.rows) (taken_after taken at) rest) m rows0
     rows rows' old mid new all found r left w)
 
-pub parts_step : {F : Type 0} (o : Around) (fields : List FieldForm) (f : F → FieldRead)
+pub parts_step : {F : Type 0} (o : Around) (fields : List Field) (f : F → FieldRead)
     (list : List F) (i : ℕ) (e : F) (rows0 rows rows' : List Written) (taken taken' : List Bool)
     (old mid new : Faults) (all next : Bool) (found more : List Part) (at : Option FieldAt)
     (r : Option Part) (read : List Bool) → read ≡ taken → i < length list → e ≡ get_or list i e
@@ -290,7 +290,7 @@ parts_step {F = F} o fields f list i e rows0 rows rows' taken taken' old mid new
     (subst (λ (x : Option FieldAt). Writes (part_for o (length rows) taken (f e) x) rows rows' mid new r) named
     (subst (λ (x : List Bool). Writes (part_for o (length rows) x (f e) at) rows rows' mid new r) reads w)))
 
-fields_told : (b : Bool) (fields : List FieldForm) (parts : List (Checked Part)) (old mid : Faults)
+fields_told : (b : Bool) (fields : List Field) (parts : List (Checked Part)) (old mid : Faults)
     (found : List Part) → TellsList parts old mid (kept b found)
     → Tells (bind (all_of parts) (fields_row fields)) old mid (known_row fields b found)
 fields_told true fields parts old mid found t =
@@ -299,7 +299,7 @@ fields_told true fields parts old mid found t =
 fields_told false fields parts old mid found t =
     bind_none (all_of parts) (fields_row fields) old mid (list_told parts old mid None t)
 
-pub parts_end : {E F : Type 0} (o : Around) (fields : List FieldForm) (f : F → FieldRead)
+pub parts_end : {E F : Type 0} (o : Around) (fields : List Field) (f : F → FieldRead)
     (list : List F) (i : ℕ) (rows0 rows new_rows : List Written) (taken : List Bool)
     (result : Result (Option Initial) E) (old mid : Faults) (all : Bool) (found : List Part)
     (row : Option Written) (read : List Part)

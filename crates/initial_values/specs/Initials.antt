@@ -27,9 +27,8 @@ use Rattle.declared_types.specs.declared.given.Initial.{Initial}
 use Rattle.declared_types.specs.declared.given.Initial.TheVariants as initial
 use Rattle.declared_types.specs.declared.given.Given.{Given}
 use Rattle.declared_types.specs.declared.forms.ArrayForm.{ArrayForm}
-use Rattle.declared_types.specs.declared.forms.FieldForm.{FieldForm}
-use Rattle.declared_types.specs.declared.forms.Form.{Form}
-use Rattle.declared_types.specs.declared.forms.Form.TheVariants as form
+use Rattle.declared_types.specs.BareForms.{BareForm, Field}
+use Rattle.declared_types.specs.BareForms as form
 use Rattle.declared_types.specs.declared.outside.ConstantPlace.TheVariants as place
 use Rattle.initial_values.specs.Nodes.{expr_node}
 use Rattle.initial_values.specs.declared.written.Run.{Run}
@@ -43,7 +42,7 @@ use Rattle.initial_values.specs.declared.written.Written.TheVariants as written
 pub record Ground : Type 0 where
   pub around : Around
   pub repeats : List ℕ → ℕ
-  pub forms : List Form
+  pub forms : List BareForm
 
 -- what is written, and the rows that it adds to the table of these values
 pub record Made (A : Type 0) : Type 0 where
@@ -85,7 +84,7 @@ value_of o (ty.Instance shape) e = bind (o.constant place.Nothing e) no_value
 
 -- ---- forms
 
-abbrev pub array_of_form : Option Form → Option ArrayForm
+abbrev pub array_of_form : Option BareForm → Option ArrayForm
 array_of_form None = None
 array_of_form (Some (form.Standard block)) = None
 array_of_form (Some (form.Block unit)) = None
@@ -93,7 +92,7 @@ array_of_form (Some (form.Enumeration count)) = None
 array_of_form (Some (form.Array a)) = Some a
 array_of_form (Some (form.Structure fields)) = None
 
-abbrev pub fields_of_form : Option Form → Option (List FieldForm)
+abbrev pub fields_of_form : Option BareForm → Option (List Field)
 fields_of_form None = None
 fields_of_form (Some (form.Standard block)) = None
 fields_of_form (Some (form.Block unit)) = None
@@ -101,18 +100,18 @@ fields_of_form (Some (form.Enumeration count)) = None
 fields_of_form (Some (form.Array a)) = None
 fields_of_form (Some (form.Structure fields)) = Some fields
 
-abbrev pub row_at : List Form → ShapeNo → Option Form
+abbrev pub row_at : List BareForm → ShapeNo → Option BareForm
 row_at forms shape = slice_get forms shape.0
 
 -- the array, or the structure, of a type that is one
-abbrev pub array_in : List Form → DeclType → Option ArrayForm
+abbrev pub array_in : List BareForm → DeclType → Option ArrayForm
 array_in forms (ty.Array shape) = array_of_form (row_at forms shape)
 array_in forms (ty.Scalar b) = None
 array_in forms (ty.Enumeration shape) = None
 array_in forms (ty.Structure shape) = None
 array_in forms (ty.Instance shape) = None
 
-abbrev pub fields_in : List Form → DeclType → Option (List FieldForm)
+abbrev pub fields_in : List BareForm → DeclType → Option (List Field)
 fields_in forms (ty.Structure shape) = fields_of_form (row_at forms shape)
 fields_in forms (ty.Scalar b) = None
 fields_in forms (ty.Enumeration shape) = None
@@ -184,17 +183,17 @@ pub record FieldRead : Type 0 where
   pub name : Identifier
   pub value : At Initial
 
-abbrev pub is_named : List ℕ → FieldForm → Bool
-is_named name f = is_eq (slice_cmp nat_cmp (raised_all f.name.now) (raised_all name))
+abbrev pub is_named : List ℕ → Field → Bool
+is_named name f = is_eq (slice_cmp nat_cmp (raised_all f.name) (raised_all name))
 
 -- the first field of a name, its place counted from a number on
-abbrev pub field_from : ℕ → List FieldForm → List ℕ → Option FieldAt
+abbrev pub field_from : ℕ → List Field → List ℕ → Option FieldAt
 field_from k [] name = None
 field_from k (f ∷ fs) name =
     if is_named name f then Some (record { place = k; given = f.given })
     else field_from (suc k) fs name
 
-abbrev pub field_named : List FieldForm → List ℕ → Option FieldAt
+abbrev pub field_named : List Field → List ℕ → Option FieldAt
 field_named fields name = field_from 0 fields name
 
 abbrev pub is_taken : Option Bool → Bool
@@ -224,7 +223,7 @@ taken_after taken None = taken
 taken_after taken (Some at) = slice_set taken at.place true
 
 -- all of them, with how many rows there are before and which fields are written before
-abbrev pub parts_made : Around → List FieldForm → ℕ → List Bool → List FieldRead → List (Made Part)
+abbrev pub parts_made : Around → List Field → ℕ → List Bool → List FieldRead → List (Made Part)
 parts_made o fields before taken [] = []
 parts_made o fields before taken (f ∷ fs) =
     part_for o before taken f (field_named fields f.name.name)
@@ -232,7 +231,7 @@ parts_made o fields before taken (f ∷ fs) =
     (before + length (part_for o before taken f (field_named fields f.name.name)).rows)
     (taken_after taken (field_named fields f.name.name)) fs
 
-abbrev pub own_value : FieldForm → Initial
+abbrev pub own_value : Field → Initial
 own_value f = f.given.value
 
 -- each field has the value that is written for it, else its own
@@ -240,17 +239,17 @@ abbrev pub written_over : List Initial → List Part → List Initial
 written_over values [] = values
 written_over values (p ∷ ps) = written_over (slice_set values p.place p.value) ps
 
-abbrev pub fields_row : List FieldForm → List Part → Checked Written
+abbrev pub fields_row : List Field → List Part → Checked Written
 fields_row fields parts = Good (written.Fields (written_over (map own_value fields) parts))
 
-abbrev pub none_taken : List FieldForm → List Bool
+abbrev pub none_taken : List Field → List Bool
 none_taken fields = replicate (length fields) false
 
-abbrev pub structure_parts : List FieldForm → ℕ → List (Made Part) → Made Initial
+abbrev pub structure_parts : List Field → ℕ → List (Made Part) → Made Initial
 structure_parts fields before parts =
     with_row before (all_rows parts) (bind (all_of (all_told parts)) (fields_row fields))
 
-abbrev pub structure_value : Around → Node → Option (List FieldForm) → List FieldRead → ℕ → Made Initial
+abbrev pub structure_value : Around → Node → Option (List Field) → List FieldRead → ℕ → Made Initial
 structure_value o node None fs before = without_rows (wrong_at o node code.WrongType)
 structure_value o node (Some fields) fs before =
     structure_parts fields before (parts_made o fields before (none_taken fields) fs)

@@ -4,6 +4,7 @@ ghost use Rattle.std.specs.Prelude.{◌≡◌, ◌++◌, length, IfOk, OnOk};
 ghost use Rattle.std.specs.Option.{option_to_list, option_map, option_copied};
 ghost use Rattle.link_faults.specs.Checked.{Tells};
 ghost use Rattle.expression_types.specs.steps.Several.{still_good};
+ghost use Rattle.declared_types.specs.BareForms.{bare_forms};
 ghost use Rattle.initial_values.specs.Initials as written_by;
 ghost use Rattle.initial_values.specs.steps.Telling.{kept, room_after, known_elements, rows_of, initial_of};
 
@@ -18,7 +19,7 @@ use tree_items::Items;
 
 /// The array of a type that is one.
 pub(crate) fn array_in<'f>(forms: &'f [Form<'_>], ty: DeclType) -> Option<&'f ArrayForm>
-    ensures { option_copied result ≡ written_by.array_in forms.now ty }
+    ensures { option_copied result ≡ written_by.array_in (bare_forms forms.now) ty }
 {
     match ty {
         DeclType::Array(shape) => match forms.get(shape.0 as usize) {

@@ -1,7 +1,8 @@
 // Initial values of structures.
 
 ghost use Rattle.std.specs.Prelude.{◌≡◌, ◌++◌, map, slice_get, IfOk, OnOk};
-ghost use Rattle.std.specs.Option.{option_copied, option_to_list};
+ghost use Rattle.std.specs.Option.{option_copied, option_map, option_to_list};
+ghost use Rattle.declared_types.specs.BareForms.{bare_field, bare_forms};
 ghost use Rattle.expression_types.specs.steps.Several.{still_good};
 ghost use Rattle.initial_values.specs.Initials as written_by;
 ghost use Rattle.initial_values.specs.steps.Telling.{fields_row};
@@ -16,7 +17,8 @@ use tree_items::Items;
 
 /// The fields of a type that is a structure.
 pub(crate) fn fields_in<'f, 't>(forms: &'f [Form<'t>], ty: DeclType) -> Option<&'f [FieldForm<'t>]>
-    ensures { option_copied result ≡ written_by.fields_in forms.now ty }
+    ensures { option_map (map bare_field) (option_copied result)
+        ≡ written_by.fields_in (bare_forms forms.now) ty }
 {
     match ty {
         DeclType::Structure(shape) => match forms.get(shape.0 as usize) {
@@ -28,7 +30,7 @@ pub(crate) fn fields_in<'f, 't>(forms: &'f [Form<'t>], ty: DeclType) -> Option<&
 }
 
 fn is_named(name: &[u8], field: &FieldForm<'_>) -> bool
-    ensures { result ≡ written_by.is_named name.now field.now }
+    ensures { result ≡ written_by.is_named name.now (bare_field field.now) }
 {
     match compare_names(field.name, name) {
         Ordering::Equal => true,
@@ -38,7 +40,7 @@ fn is_named(name: &[u8], field: &FieldForm<'_>) -> bool
 
 /// The first field of a name.
 pub(crate) fn field_named(fields: &[FieldForm<'_>], name: &[u8]) -> Option<FieldAt>
-    ensures { result ≡ written_by.field_named fields.now name.now }
+    ensures { result ≡ written_by.field_named (map bare_field fields.now) name.now }
 {
     let mut place = 0;
     for field in fields {
@@ -55,7 +57,7 @@ pub(crate) fn field_named(fields: &[FieldForm<'_>], name: &[u8]) -> Option<Field
 
 /// The own values of fields, and that none of them is written.
 pub(crate) fn own_values(alloc: Global, fields: &[FieldForm<'_>]) -> Result<Vec<Initial>, NoMemory>
-    ensures { IfOk result (λ it. it.items ≡ map written_by.own_value fields.now) }
+    ensures { IfOk result (λ it. it.items ≡ map written_by.own_value (map bare_field fields.now)) }
 {
     let mut values = Vec::new(alloc);
     for field in fields {
@@ -65,7 +67,7 @@ pub(crate) fn own_values(alloc: Global, fields: &[FieldForm<'_>]) -> Result<Vec<
 }
 
 pub(crate) fn none_taken(alloc: Global, fields: &[FieldForm<'_>]) -> Result<Vec<bool>, NoMemory>
-    ensures { IfOk result (λ it. it.items ≡ written_by.none_taken fields.now) }
+    ensures { IfOk result (λ it. it.items ≡ written_by.none_taken (map bare_field fields.now)) }
 {
     Ok(vec![in alloc; false; fields.len()]?)
 }
@@ -127,7 +129,7 @@ pub(crate) fn fields_known(
     all: bool,
     parts: &[Part],
 ) -> Result<Option<Written>, NoMemory>
-    ensures { IfOk result (λ it. it ≡ fields_row fields.now all parts.now) }
+    ensures { IfOk result (λ it. it ≡ fields_row (map bare_field fields.now) all parts.now) }
 {
     if all {
         let mut values = own_values(alloc, fields)?;

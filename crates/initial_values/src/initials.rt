@@ -5,6 +5,7 @@ ghost use Rattle.link_faults.specs.Checked.{Tells, bind};
 ghost use Rattle.std.specs.Prelude.{map};
 ghost use Rattle.declared_types.specs.Ranges.{wrong_at};
 ghost use Rattle.declared_types.specs.declared.forms.Form.{Form};
+ghost use Rattle.declared_types.specs.BareForms.{bare_field};
 ghost use Rattle.declared_types.specs.declared.outside.ConstantPlace.TheVariants as place;
 ghost use Rattle.initial_values.specs.Initials as written_by;
 ghost use Rattle.initial_values.specs.steps.Telling.{Writes, ground};
@@ -265,8 +266,8 @@ fn structure<C: Counts>(
     fields: &[FieldForm<'_>],
     list: &[FieldInit],
 ) -> Result<Option<Initial>, NoMemory>
-    ensures { IfOk result (λ it. Writes (written_by.structure_parts fields.now (length rows.old.items)
-        (written_by.parts_made (C.around outside.now) fields.now (length rows.old.items) (written_by.none_taken fields.now)
+    ensures { IfOk result (λ it. Writes (written_by.structure_parts (map bare_field fields.now) (length rows.old.items)
+        (written_by.parts_made (C.around outside.now) (map bare_field fields.now) (length rows.old.items) (written_by.none_taken (map bare_field fields.now))
         (map (written_by.field_value (ground (C.around outside.now) (C.repeats outside.now) forms.now)) list.now)))
         rows.old.items rows.new.items faults.old faults.new it) }
 {

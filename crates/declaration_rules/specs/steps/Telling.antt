@@ -11,6 +11,7 @@ use Rattle.st_tree.specs.declared.declaration.Decl.{Decl}
 use Rattle.declared_types.specs.Around.{Around}
 use Rattle.declared_types.specs.Ranges.{wrong_at}
 use Rattle.declared_types.specs.declared.given.Given.{Given}
+use Rattle.declared_types.specs.BareForms.{BareForm, bare_forms}
 use Rattle.declared_types.specs.declared.forms.Form.{Form}
 use Rattle.initial_values.specs.Nodes.{init_node}
 use Rattle.initial_values.specs.Initials as values
@@ -20,7 +21,7 @@ use Rattle.declaration_rules.specs.Declarations.{Surroundings, Made, held, with_
 pub record Gives (x : Made) (forms forms' : List Form) (rows rows' : List Written)
     (old new : Faults) (result : Option Given) : Type 0 where
   pub told : Tells x.told old new result
-  pub forms_are : forms' ≡ forms ++ x.forms
+  pub forms_are : bare_forms forms' ≡ bare_forms forms ++ x.forms
   pub rows_are : rows' ≡ rows ++ x.rows
 
 abbrev pub around_of : Around → (List ℕ → ℕ) → (Init → Bool)
@@ -35,16 +36,16 @@ around_of around repeats leads twice holds =
     }
 
 -- what is known of a type, with an initial value
-abbrev pub known_value : Surroundings → List Form → ℕ → Init → Option Given → values.Made Given
+abbrev pub known_value : Surroundings → List BareForm → ℕ → Init → Option Given → values.Made Given
 known_value s forms before i None = values.without_rows (Bad (values.alone s.around i))
 known_value s forms before i (Some g) = with_value s forms before i (Good g)
 
-abbrev pub known_written : Surroundings → List Form → ℕ → Init → Option Given → values.Made Given
+abbrev pub known_written : Surroundings → List BareForm → ℕ → Init → Option Given → values.Made Given
 known_written s forms before i given =
     if s.leads_back i then values.without_rows (wrong_at s.around (init_node i) code.NotConstant)
     else known_value s forms before i given
 
-abbrev pub known_if : Surroundings → List Form → ℕ → Option Init → Option Given → values.Made Given
+abbrev pub known_if : Surroundings → List BareForm → ℕ → Option Init → Option Given → values.Made Given
 known_if s forms before None None = values.without_rows unusable
 known_if s forms before None (Some g) = values.without_rows (Good g)
 known_if s forms before (Some i) given = known_written s forms before i given

@@ -11,6 +11,7 @@ use Rattle.st_tree.specs.declared.node.Node.{Node}
 use Rattle.st_tree.specs.declared.declaration.Range.{Range}
 use Rattle.link_faults.specs.declared.code.LinkCode.TheVariants as code
 use Rattle.declared_types.specs.Around.{Around}
+use Rattle.declared_types.specs.BareForms.{bare_forms}
 use Rattle.declared_types.specs.Ranges.{all_of, bounds, wrong_at}
 use Rattle.declared_types.specs.Specifications.{Made, max_dims, max_elements, narrowed_type, small_array, array_given}
 use Rattle.declared_types.specs.declared.forms.Dim.{Dim}
@@ -22,7 +23,7 @@ use Rattle.declared_types.specs.declared.outside.ConstantPlace.TheVariants as pl
 pub record Makes (x : Made) (forms forms' : List Form) (old new : Faults) (result : Option Given)
     : Type 0 where
   pub told : Tells x.told old new result
-  pub forms_are : forms' ≡ forms ++ x.forms
+  pub forms_are : bare_forms forms' ≡ bare_forms forms ++ x.forms
 
 -- What a call tells of several parts: the first fault after it, and their list where all are good.
 pub record TellsList {A : Type 0} (xs : List (Checked A)) (old new : Faults)

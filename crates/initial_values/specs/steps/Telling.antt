@@ -13,7 +13,7 @@ use Rattle.initial_values.specs.declared.written.Written.{Written}
 use Rattle.initial_values.specs.declared.written.Written.TheVariants as written
 use Rattle.declared_types.specs.declared.forms.Form.{Form}
 use Rattle.declared_types.specs.declared.given.Initial.TheVariants as initial
-use Rattle.declared_types.specs.declared.forms.FieldForm.{FieldForm}
+use Rattle.declared_types.specs.BareForms.{Field, bare_forms}
 use Rattle.initial_values.specs.declared.written.Part.{Part}
 use Rattle.initial_values.specs.Initials.{Made, Ground, run_of, own_value, written_over}
 
@@ -54,9 +54,9 @@ initial_of k None = None
 initial_of k (Some row) = Some (initial.Written (record { 0 = k }))
 
 abbrev pub ground : Around → (List ℕ → ℕ) → List Form → Ground
-ground around repeats forms = record { around = around; repeats = repeats; forms = forms }
+ground around repeats forms = record { around = around; repeats = repeats; forms = bare_forms forms }
 
-abbrev pub fields_row : List FieldForm → Bool → List Part → Option Written
+abbrev pub fields_row : List Field → Bool → List Part → Option Written
 fields_row fields true parts =
     Some (written.Fields (written_over (map own_value fields) parts))
 fields_row fields false parts = None

@@ -1,4 +1,5 @@
-use Rattle.std.proofs.Common.{◌∙◌, ap, sym}
+use Rattle.std.proofs.Common.{◌∙◌, ap, sym, map}
+use Rattle.declared_types.specs.BareForms.{bare_field}
 use Rattle.initial_values.specs.Initials as written_by
 use Rattle.initial_values.specs.steps.Telling.{ground}
 use Rattle.initial_values.proofs.Made.{runs_step, runs_end, parts_step, parts_end, field_name}
@@ -22,17 +23,17 @@ elements-returns g t c =
 
 pub structure-loop-field-preserved : goal.structure-loop-field-preserved
 structure-loop-field-preserved g t c =
-    parts_step (g.C.Outside.around c.args.outside.now) c.args.fields.now
+    parts_step (g.C.Outside.around c.args.outside.now) (map bare_field c.args.fields.now)
     (written_by.field_value (ground (g.C.Outside.around c.args.outside.now)
     (g.C.Counts.repeats c.args.outside.now) c.args.forms.now)) _ _ _ _ _ _ _ _ _ _ _ _ _ _ _ _ _ _
     c.deref.ensures.value c.loop-field-test.true c.field-item.is c.loop-field.invariant
-    (c.field_named-at.ensures ∙ ap (written_by.field_named c.args.fields.now)
+    (c.field_named-at.ensures ∙ ap (written_by.field_named (map bare_field c.args.fields.now))
     (c.bytes.ensures ∙ sym (ap (λ i. i.name) (field_name _ _)))) c.in_ok-part.ensures
     c.in_ok-all.ensures.all c.in_ok-all.ensures.parts c.take.ensures
 
 pub structure-returns : goal.structure-returns
 structure-returns g t c =
-    parts_end (g.C.Outside.around c.args.outside.now) c.args.fields.now
+    parts_end (g.C.Outside.around c.args.outside.now) (map bare_field c.args.fields.now)
     (written_by.field_value (ground (g.C.Outside.around c.args.outside.now)
     (g.C.Counts.repeats c.args.outside.now) c.args.forms.now)) _ _ _ _ _ _ _ _ _ _ _ _ _
     c.loop-field-test.false c.loop-field.invariant c.deref-2.ensures.value c.in_ok-row.ensures c.add_row.ensures.rows

@@ -1,4 +1,5 @@
 use Rattle.std.proofs.Common.{map, drop, length}
+use Rattle.declared_types.specs.BareForms.{bare_field}
 use Rattle.initial_values.specs.Initials as written_by
 use Rattle.initial_values.specs.steps.Telling.{ground}
 use Rattle.initial_values.proofs.Made.{LeftRuns, LeftMade}
@@ -14,7 +15,7 @@ abbrev pub invariant-structure-loop-field : goal.invariant-structure-loop-field
 invariant-structure-loop-field g l =
     let o = g.C.Outside.around l.outside in
     let f = written_by.field_value (ground o (g.C.Counts.repeats l.outside) l.forms) in
-    LeftMade (written_by.parts_made o l.fields (length l.fn.rows.items) (written_by.none_taken l.fields)
+    LeftMade (written_by.parts_made o (map bare_field l.fields) (length l.fn.rows.items) (written_by.none_taken (map bare_field l.fields))
     (map f l.list))
-    (written_by.parts_made o l.fields (length l.rows.items) l.taken.items (map f (drop l.field-index l.list)))
+    (written_by.parts_made o (map bare_field l.fields) (length l.rows.items) l.taken.items (map f (drop l.field-index l.list)))
     l.fn.rows.items l.rows.items l.fn.faults l.faults l.all l.parts.items
