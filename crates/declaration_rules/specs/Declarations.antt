@@ -1,6 +1,6 @@
 -- What declarations give. Source: IEC 61131-3, declarations of variables, of data types and of functions,
 -- directly represented variables; which faults stand, and where, is this profile's.
-use Rattle.std.specs.Prelude.{ℕ, Bool, true, false, if◌then◌else◌, List, [], ◌∷◌, ◌++◌, length, Option, Some, None}
+use Rattle.std.specs.Prelude.{ℕ, ◌+◌, max, Bool, true, false, if◌then◌else◌, List, [], ◌∷◌, ◌++◌, map, length, Option, Some, None}
 use Rattle.iec_tables.specs.declared.elem.Elem.{Elem}
 use Rattle.st_tree.specs.declared.node.Node.{Node}
 use Rattle.st_tree.specs.declared.expression.Identifier.{Identifier}
@@ -9,17 +9,22 @@ use Rattle.st_tree.specs.declared.declaration.Spec.{Spec}
 use Rattle.st_tree.specs.declared.declaration.Init.{Init}
 use Rattle.st_tree.specs.declared.declaration.Decl.{Decl}
 use Rattle.st_tree.specs.declared.declaration.TypeName.{TypeName}
+use Rattle.st_tree.specs.declared.file.TypeDecl.{TypeDecl}
+use Rattle.st_tree.specs.declared.file.Shape.{Shape}
+use Rattle.st_tree.specs.declared.file.Fields.{Fields}
 use Rattle.link_faults.specs.declared.code.LinkCode.TheVariants as code
 use Rattle.link_faults.specs.Checked.{Checked, Good, Bad, faults, unusable, provided, bind}
 use Rattle.declared_types.specs.Around.{Around}
-use Rattle.declared_types.specs.Ranges.{site_of, wrong_at}
+use Rattle.declared_types.specs.Ranges.{site_of, wrong_at, all_of}
 use Rattle.declared_types.specs.Specifications as types
 use Rattle.declared_types.specs.declared.given.DeclType.{DeclType}
 use Rattle.declared_types.specs.declared.given.DeclType.TheVariants as ty
 use Rattle.declared_types.specs.declared.given.Initial.{Initial}
+use Rattle.declared_types.specs.declared.given.Initial.TheVariants as initial
 use Rattle.declared_types.specs.declared.given.Given.{Given}
-use Rattle.declared_types.specs.declared.forms.Form.{Form}
-use Rattle.declared_types.specs.BareForms.{BareForm}
+use Rattle.declared_types.specs.BareForms.{BareForm, Field, Structure}
+use Rattle.expression_types.specs.Lists.{faults_of}
+use Rattle.project_declarations.specs.Declarations.{joined}
 use Rattle.initial_values.specs.Nodes.{init_node}
 use Rattle.initial_values.specs.Initials as values
 use Rattle.initial_values.specs.declared.written.Written.{Written}
@@ -142,3 +147,101 @@ single_result s node g = provided (is_single g.ty) g (site_of s.around node) cod
 abbrev pub result : Surroundings → Node → TypeName → Checked Given
 result s node name =
     bind (types.of_type_name s.around false node name) (single_result s node)
+
+-- ---- structures
+
+-- fields that are declared together, and what their specification gives
+pub record FieldGroup : Type 0 where
+  pub names : List Identifier
+  pub made : Made
+
+-- no field is an instance
+abbrev pub group_at : Surroundings → List BareForm → ℕ → Fields → FieldGroup
+group_at s forms before g =
+    record { names = g.names; made = variable s false forms before g.spec g.init }
+
+-- each group behind the rows of those before it
+abbrev pub groups : Surroundings → List BareForm → ℕ → List Fields → List FieldGroup
+groups s forms before [] = []
+groups s forms before (g ∷ gs) =
+    group_at s forms before g
+    ∷ groups s (forms ++ (group_at s forms before g).made.forms)
+    (before + length (group_at s forms before g).made.rows) gs
+
+abbrev pub field_of : Given → Identifier → Field
+field_of given i = record { name = i.name; given = given }
+
+abbrev pub fields_of : Given → List Identifier → List Field
+fields_of given names = map (field_of given) names
+
+abbrev pub group_fields : FieldGroup → Checked (List Field)
+group_fields g = bind g.made.told (λ given. Good (fields_of given g.names))
+
+abbrev pub all_groups : List FieldGroup → List (Checked (List Field))
+all_groups gs = map group_fields gs
+
+abbrev pub forms_in : List FieldGroup → List BareForm
+forms_in [] = []
+forms_in (g ∷ gs) = g.made.forms ++ forms_in gs
+
+abbrev pub rows_in : List FieldGroup → List Written
+rows_in [] = []
+rows_in (g ∷ gs) = g.made.rows ++ rows_in gs
+
+-- as many elements as the largest field has
+abbrev pub size_of : List Field → ℕ
+size_of [] = 1
+size_of (f ∷ fs) = max f.given.size (size_of fs)
+
+abbrev pub structure_given : ℕ → List Field → Given
+structure_given k fields =
+    record {
+      ty = ty.Structure (record { 0 = k });
+      value = initial.Own;
+      size = size_of fields;
+    }
+
+-- two fields of one name are told elsewhere
+abbrev pub structure_fields : Surroundings → Node → List FieldGroup → Checked (List Field)
+structure_fields s node gs =
+    if s.has_field_twice node then Bad (faults_of (all_groups gs))
+    else bind (all_of (all_groups gs)) (λ fss. Good (joined fss))
+
+-- the structure's row stands behind those of its fields
+abbrev pub with_fields : ℕ → List BareForm → List Written → Checked (List Field) → Made
+with_fields before inner rows (Good fields) =
+    record {
+      told = Good (structure_given (before + length inner) fields);
+      forms = inner ++ (Structure fields ∷ []);
+      rows = rows;
+    }
+with_fields before inner rows (Bad fs) = record { told = Bad fs; forms = inner; rows = rows }
+
+abbrev pub structure_of : Surroundings → ℕ → Node → List FieldGroup → Made
+structure_of s before node gs =
+    with_fields before (forms_in gs) (rows_in gs) (structure_fields s node gs)
+
+abbrev pub structure : Surroundings → List BareForm → ℕ → Node → List Fields → Made
+structure s forms before node list = structure_of s (length forms) node (groups s forms before list)
+
+-- ---- data types
+
+-- an initial value for what is made of a type
+abbrev pub initialised : Surroundings → List BareForm → ℕ → Option Init → Made → Made
+initialised s forms before i m =
+    record {
+      told = (if_written s (forms ++ m.forms) (before + length m.rows) i m.told).told;
+      forms = m.forms;
+      rows = m.rows ++ (if_written s (forms ++ m.forms) (before + length m.rows) i m.told).rows;
+    }
+
+abbrev pub without_rows : types.Made → Made
+without_rows m = record { told = m.told; forms = m.forms; rows = [] }
+
+abbrev pub shape_made : Surroundings → List BareForm → ℕ → Shape → Made
+shape_made s forms before (Shape.Spec spec) = without_rows (types.made s.around spec false (length forms))
+shape_made s forms before (Shape.Structure node list) = structure s forms before node list
+
+-- a data type that is declared
+abbrev pub data_type : Surroundings → List BareForm → ℕ → TypeDecl → Made
+data_type s forms before d = initialised s forms before d.init (shape_made s forms before d.shape)

@@ -88,7 +88,7 @@ fn written<D: Declares>(
     }
 }
 
-fn if_written<D: Declares>(
+pub(crate) fn if_written<D: Declares>(
     alloc: Global,
     outside: &D,
     forms: &[Form<'_>],

@@ -4,6 +4,7 @@
 mod initialised;
 mod located;
 mod outside;
+mod structures;
 
 pub use located::{result_type, variables};
 pub use outside::Declares;
