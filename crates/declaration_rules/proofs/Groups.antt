@@ -2,13 +2,11 @@
 use Rattle.std.proofs.Common.{◌≡◌, ℕ, suc, ◌+◌, ◌<◌, ◌≤◌, max, Bool, true, false, ◌&&◌, List, [], ◌∷◌, ◌++◌, length, get_or, drop, map, Option, Some, None, Ok, Err, IfOk, OnOk, refl, sym, ap, ◌∙◌, subst, add-one, drop-cons, append_assoc, arith}
 use Rattle.std.specs.Prelude.{if◌then◌else◌, Result}
 use Rattle.std.proofs.lemmas.List.{drop_all, length-append}
-use Rattle.std.proofs.lemmas.Option.{none-some}
 use Rattle.st_tree.specs.declared.node.Node.{Node}
 use Rattle.st_tree.specs.declared.expression.Identifier.{Identifier}
 use Rattle.st_tree.specs.declared.file.Fields.{Fields}
 use Rattle.link_faults.specs.First.{after}
 use Rattle.link_faults.specs.Checked.{Checked, Good, Bad, faults, answer, bind, Tells}
-use Rattle.link_faults.specs.declared.fault.LinkFault.{LinkFault}
 use Rattle.link_faults.specs.declared.fault.Faults.{Faults}
 use Rattle.link_faults.proofs.Tells.{after_append}
 use Rattle.expression_types.specs.Lists.{are_good, faults_of}
@@ -23,7 +21,7 @@ use Rattle.declared_types.proofs.Told.{bare_length, list_told}
 use Rattle.declared_types.proofs.Lists.{end_good, end_bad}
 use Rattle.declaration_rules.proofs.Told.{bind_some, bind_none}
 use Rattle.initial_values.specs.declared.written.Written.{Written}
-use Rattle.declaration_rules.specs.Declarations.{Surroundings, Made, FieldGroup, variable, group_at, groups, fields_of, group_fields, all_groups, forms_in, rows_in, size_of, structure_given, structure_fields, with_fields, structure_of, structure}
+use Rattle.declaration_rules.specs.Declarations.{Surroundings, FieldGroup, variable, group_at, groups, fields_of, all_groups, forms_in, rows_in, size_of, structure_given, structure_fields, with_fields, structure_of, structure}
 use Rattle.declaration_rules.specs.steps.Telling.{Gives, known_fields, known_structure, structure_rows, structure_under}
 
 -- ---- sizes

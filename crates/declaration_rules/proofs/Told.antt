@@ -1,5 +1,6 @@
 -- What is told of parts that stand together: the lemmas of faults, under names of this crate.
-use Rattle.std.proofs.Common.{◌≡◌, ℕ, Bool, true, false, List, ◌++◌, Option, Some, None, Ok, Err, IfOk, sym, ap, ◌∙◌, subst, length}
+use Rattle.std.proofs.Common.{◌≡◌, ℕ, Bool, true, false, List, [], ◌∷◌, ◌++◌, Option, Some, None, refl, Ok, Err, IfOk, sym, ap, ◌∙◌, subst, length, append_assoc, ◌+◌}
+use Rattle.std.proofs.lemmas.List.{length-append}
 use Rattle.std.specs.Prelude.{if◌then◌else◌, Result}
 use Rattle.st_tree.specs.declared.expression.Address.{Address}
 use Rattle.st_tree.specs.declared.declaration.Init.{Init}
@@ -21,7 +22,7 @@ use Rattle.initial_values.specs.Nodes.{init_node}
 use Rattle.initial_values.specs.Initials as values
 use Rattle.initial_values.specs.declared.written.Written.{Written}
 use Rattle.initial_values.specs.steps.Telling.{Writes}
-use Rattle.declaration_rules.specs.Declarations.{Surroundings, Made, with_value, not_constant, if_written, with_init, held, at_address, located}
+use Rattle.declaration_rules.specs.Declarations.{Surroundings, Made, with_value, not_constant, if_written, with_init, held, at_address, located, initialised, without_rows}
 use Rattle.declaration_rules.specs.steps.Telling.{Gives, known_value, known_if, known_at}
 
 pub bind_some : {A B : Type 0} (x : Checked A) (k : A → Checked B) (old mid new : Faults) (a : A)
@@ -156,3 +157,51 @@ located_gives s b d m given forms forms' rows rows' old mid new r t u =
       forms_are = t.forms_are;
       rows_are = t.rows_are;
     }
+
+-- ---- data types
+
+no_more : {A : Type 0} (xs : List A) → xs ++ [] ≡ xs
+no_more [] = refl
+no_more (x ∷ xs) = ap (λ ys. x ∷ ys) (no_more xs)
+
+initialised_gives : (s : Surroundings) (forms forms' read : List Form) (i : Option Init)
+    (m : Made) (given : Option Given) (rows rows' rows'' : List Written) (old mid new : Faults)
+    (r : Option Given) → Gives m forms forms' rows rows' old mid given → read ≡ forms'
+    → Writes (known_if s (bare_forms read) (length rows') i given) rows' rows'' mid new r
+    → Gives (initialised s (bare_forms forms) (length rows) i m) forms forms' rows rows'' old new r
+initialised_gives s forms forms' read i m given rows rows' rows'' old mid new r t reads w =
+    let before : ℕ = length rows + length m.rows in
+    let Q : List BareForm → Type 0 =
+    λ fs. Writes (known_if s fs (length rows') i given) rows' rows'' mid new r in
+    let N : ℕ → Type 0 =
+    λ n. Writes (known_if s (bare_forms forms ++ m.forms) n i given) rows' rows'' mid new r in
+    let here : Writes (if_written s (bare_forms forms ++ m.forms) before i m.told) rows' rows'' old new r =
+    read_told s (bare_forms forms ++ m.forms) before i m.told given rows' rows'' old mid new r t.told
+    (subst N (ap length t.rows_are ∙ length-append rows m.rows)
+    (subst Q (ap bare_forms reads ∙ t.forms_are) w)) in
+    let more : List Written = (if_written s (bare_forms forms ++ m.forms) before i m.told).rows in
+    record {
+      told = here.told;
+      forms_are = t.forms_are;
+      rows_are = here.rows_are ∙ ap (λ rs. rs ++ more) t.rows_are ∙ append_assoc rows m.rows more;
+    }
+
+pub initialised_ok : {E : Type 0} (s : Surroundings) (forms forms' read : List Form) (i : Option Init)
+    (m : Made) (given : Option Given) (rows rows' rows'' : List Written) (old mid new : Faults)
+    (result : Result (Option Given) E) → Gives m forms forms' rows rows' old mid given → read ≡ forms'
+    → IfOk result (λ it. Writes (known_if s (bare_forms read) (length rows') i given) rows' rows'' mid new it)
+    → IfOk result (λ it. Gives (initialised s (bare_forms forms) (length rows) i m) forms forms' rows
+    rows'' old new it)
+initialised_ok s forms forms' read i m given rows rows' rows'' old mid new (Ok it) t reads w =
+    initialised_gives s forms forms' read i m given rows rows' rows'' old mid new it t reads w
+initialised_ok s forms forms' read i m given rows rows' rows'' old mid new (Err x) t reads w = tt
+
+pub bare_ok : {E : Type 0} (forms forms' : List Form) (rows : List Written) (old new : Faults)
+    (m : ℕ → types.Made) (result : Result (Option Given) E)
+    → IfOk result (λ it. Makes (m (length forms)) forms forms' old new it)
+    → IfOk result (λ it. Gives (without_rows (m (length (bare_forms forms)))) forms forms' rows rows old new it)
+bare_ok forms forms' rows old new m (Ok it) t =
+    let P : ℕ → Type 0 = λ n. Gives (without_rows (m n)) forms forms' rows rows old new it in
+    subst P (sym (bare_length forms))
+    (record { told = t.told; forms_are = t.forms_are; rows_are = sym (no_more rows) })
+bare_ok forms forms' rows old new m (Err x) t = tt

@@ -8,3 +8,4 @@ mod structures;
 
 pub use located::{result_type, variables};
 pub use outside::Declares;
+pub use structures::data_type;

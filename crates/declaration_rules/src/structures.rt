@@ -111,8 +111,57 @@ fn structure<'t, D: Declares>(
     let mut fields = Vec::new(alloc);
     let mut all = true;
     for group in list {
-        let given = variable(alloc, outside, forms, rows, faults, false, &group.spec, &group.init)?;
+        let given = variable(
+            alloc,
+            outside,
+            forms,
+            rows,
+            faults,
+            false,
+            &group.spec,
+            &group.init,
+        )?;
         all = add_group(&mut fields, all, given, group.names.as_slice())?;
     }
     add_structure(forms, all, outside.has_field_twice(node), fields)
+}
+
+fn shape_made<'t, D: Declares>(
+    alloc: Global,
+    outside: &D,
+    forms: &mut Vec<Form<'t>>,
+    rows: &mut Vec<Written>,
+    faults: &mut Faults,
+    shape: &'t Shape,
+) -> Result<Option<Given>, NoMemory>
+    ensures { IfOk result (λ it. Gives (gives.shape_made (around_of (D.around outside.now) (D.repeats outside.now)
+        (D.leads outside.now) (D.twice outside.now) (D.holds outside.now)) (bare_forms forms.old.items)
+        (length rows.old.items) shape.now) forms.old.items forms.new.items rows.old.items
+        rows.new.items faults.old faults.new it) }
+{
+    match shape {
+        Shape::Spec(spec) => specification(alloc, outside, forms, faults, false, spec),
+        Shape::Structure(node, list) => {
+            structure(alloc, outside, forms, rows, faults, *node, list.as_slice())
+        },
+    }
+}
+
+/// What a data type gives that is declared, or None where a fault stands in its declaration. Adds rows to
+/// the tables of forms and of written values. Two fields of one name are told elsewhere.
+pub fn data_type<'t, D: Declares>(
+    alloc: Global,
+    outside: &D,
+    forms: &mut Vec<Form<'t>>,
+    rows: &mut Vec<Written>,
+    faults: &mut Faults,
+    decl: &'t TypeDecl,
+) -> Result<Option<Given>, NoMemory>
+    ensures { IfOk result (λ it. Gives (gives.data_type (around_of (D.around outside.now) (D.repeats outside.now)
+        (D.leads outside.now) (D.twice outside.now) (D.holds outside.now)) (bare_forms forms.old.items)
+        (length rows.old.items) decl.now) forms.old.items forms.new.items rows.old.items
+        rows.new.items faults.old faults.new it) }
+{
+    let given = shape_made(alloc, outside, forms, rows, faults, &decl.shape)?;
+    if_written(alloc, outside, forms, rows, faults, given, &decl.init)
 }
