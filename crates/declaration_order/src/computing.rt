@@ -4,14 +4,14 @@ ghost use Rattle.std.specs.Prelude.{◌≡◌, ◌<◌, ◌++◌, length, IfOk, 
 ghost use Rattle.declaration_order.specs.Leads as spec;
 ghost use Rattle.declaration_order.specs.LeadBack.{AreDeclComponents};
 ghost use Rattle.declaration_order.specs.Computable.{IsComputingOrder};
-ghost use Rattle.declaration_order.specs.Tables.{decls_in};
+ghost use Rattle.declaration_order.specs.Tables.{decls_in, components_in};
 ghost use Rattle.declaration_order.specs.steps.Waiting.{AreWaits, apart};
 
 use crate::declared::DeclTable;
 use crate::graphs::{Wanted, graph_of};
 use crate::leading::DeclComponents;
 use project_declarations::What;
-use reference_graph::{ComponentNumbers, Graph, components, order};
+use reference_graph::{ComponentNumbers, Graph, order};
 use scope_names::Names;
 use station_ports::outside::NoMemory;
 use std::alloc::{AllocError, Global};
@@ -70,15 +70,14 @@ pub fn computing_order(
     names: &Names<'_, What>,
     found: &DeclComponents,
 ) -> Result<Vec<usize>, NoMemory>
-    requires { AreDeclComponents (spec.found_in names.now) (decls_in table.now) found.now }
+    requires { AreDeclComponents (spec.found_in names.now) (decls_in table.now)
+        (components_in found.now) }
     ensures { IfOk result (λ list.
         IsComputingOrder (spec.found_in names.now) (decls_in table.now) list.items) }
 {
     let leads = graph_of(alloc, Wanted::Leads, table, names)?;
     let values = graph_of(alloc, Wanted::NamesAValue, table, names)?;
-    let all = graph_of(alloc, Wanted::Names, table, names)?;
-    let in_all = components(alloc, &all)?;
-    let graph = waits(alloc, &leads, &found.all, &values, &in_all)?;
+    let graph = waits(alloc, &leads, &found.all, &values, &found.by_names)?;
     match order(alloc, &graph)? {
         Some(list) => Ok(list),
         None => unreachable!(),

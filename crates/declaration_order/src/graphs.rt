@@ -17,7 +17,8 @@ use st_tree::Site;
 use station_ports::outside::NoMemory;
 use std::alloc::Global;
 
-fn found(names: &Names<'_, What>, scope: u32, name: &[u8]) -> Option<What>
+/// What a name stands for in a scope.
+pub fn found(names: &Names<'_, What>, scope: u32, name: &[u8]) -> Option<What>
     ensures { result ≡ spec.found_in names.now scope name.now }
 {
     match names.find(scope, name) {
@@ -35,7 +36,8 @@ fn type_site(what: Option<What>) -> Option<Site>
     }
 }
 
-fn variable_site(what: Option<What>) -> Option<Site>
+/// Where the variable is declared that a name stands for.
+pub fn variable_site(what: Option<What>) -> Option<Site>
     ensures { result ≡ spec.variable_site what }
 {
     match what {
@@ -44,13 +46,15 @@ fn variable_site(what: Option<What>) -> Option<Site>
     }
 }
 
-fn global_named(names: &Names<'_, What>, name: &[u8]) -> Option<Site>
+/// Where the global variable of a name is declared.
+pub fn global_named(names: &Names<'_, What>, name: &[u8]) -> Option<Site>
     ensures { result ≡ spec.global_named (spec.found_in names.now) name.now }
 {
     variable_site(found(names, GLOBAL, name))
 }
 
-fn type_named(names: &Names<'_, What>, name: &[u8]) -> Option<Site>
+/// Where the type of a name is declared.
+pub fn type_named(names: &Names<'_, What>, name: &[u8]) -> Option<Site>
     ensures { result ≡ spec.type_named (spec.found_in names.now) name.now }
 {
     type_site(found(names, OUTERMOST, name))

@@ -10,4 +10,5 @@ mod table;
 
 pub use computing::computing_order;
 pub use declared::DeclTable;
+pub use graphs::{found, global_named, type_named, variable_site};
 pub use leading::{DeclComponents, decl_components};

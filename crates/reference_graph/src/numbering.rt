@@ -1,6 +1,6 @@
 // The strongly connected components of a graph.
 
-ghost use Rattle.std.specs.Prelude.{◌≡◌, ◌+◌, ◌-◌, ◌*◌, ◌/◌, ◌^◌, ◌<◌, ◌≤◌, ℕ, IfOk, length, get_or, slice_index};
+ghost use Rattle.std.specs.Prelude.{◌≡◌, ◌+◌, ◌-◌, ◌*◌, ◌/◌, ◌^◌, ◌<◌, ◌≤◌, ℕ, IfOk, length, get_or, slice_get, slice_index};
 ghost use Rattle.reference_graph.specs.Graph.{IsTransposed};
 ghost use Rattle.reference_graph.specs.Reach.{AreComponents};
 ghost use Rattle.reference_graph.specs.steps.Groups.{AreGroups, IsSettled};
@@ -33,6 +33,13 @@ impl ComponentNumbers {
         ensures { result ≡ get_or self.now node 0 }
     {
         self.numbers[node]
+    }
+
+    /// The number of a node's component, or None where the graph has no such node.
+    pub fn get(&self, node: usize) -> Option<usize>
+        ensures { result ≡ slice_get self.now node }
+    {
+        self.numbers.get(node).copied()
     }
 }
 

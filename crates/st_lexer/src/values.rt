@@ -74,6 +74,7 @@ pub struct AddressValue<'t> {
 pub fn number_value(text: &[u8]) -> Option<u128>
     ensures value { IfSome result (λ value. spec.IsNumberValue text.now value) }
     ensures some { IsNumber text.now → IsSome result }
+    ensures reading { result ≡ readings.read_number text.now }
 {
     read_number(text)
 }
@@ -82,6 +83,7 @@ pub fn number_value(text: &[u8]) -> Option<u128>
 pub fn typed_value(text: &[u8]) -> Option<TypedValue>
     ensures value { IfSome result (λ value. spec.IsTypedValue text.now value) }
     ensures some { IsTyped text.now → IsSome result }
+    ensures reading { result ≡ readings.read_typed text.now }
 {
     read_typed(text)
 }
@@ -90,6 +92,7 @@ pub fn typed_value(text: &[u8]) -> Option<TypedValue>
 pub fn time_value(text: &[u8]) -> Option<i64>
     ensures value { IfSome result (λ value. spec.IsTimeValue text.now value) }
     ensures some { IsTime text.now → IsSome result }
+    ensures reading { result ≡ readings.read_time text.now }
 {
     read_time(text)
 }
@@ -99,6 +102,7 @@ pub fn address_value<'t>(text: &'t [u8]) -> Option<AddressValue<'t>>
     ensures value { IfSome result
         (λ value. spec.IsAddressValue text.now value.area value.width value.numbers.now) }
     ensures some { IsAddress text.now → IsSome result }
+    ensures reading { readings.address_parts result ≡ readings.read_address text.now }
 {
     read_address(text)
 }
