@@ -2,4 +2,3 @@ pub mod Noting
 pub mod GivenBefore
 pub mod Further
 pub mod Repeating
-pub mod Standing

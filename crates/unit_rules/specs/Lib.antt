@@ -1,6 +1,5 @@
 pub mod steps
 pub mod Noted
-pub mod Standard
 pub mod Twice
 pub mod Forms
 pub mod Parameters

@@ -11,6 +11,7 @@ use Rattle.std.specs.List.{list_any}
 use Rattle.st_tree.specs.declared.node.Site.{Site}
 use Rattle.scope_names.specs.declared.names.NameRow.{NameRow}
 use Rattle.scope_names.specs.Scopes.{declares}
+use Rattle.standard_types.specs.Names.{is_standard_name}
 use Rattle.link_faults.specs.declared.code.LinkCode.TheVariants as code
 use Rattle.link_faults.specs.declared.fault.LinkFault.{LinkFault}
 use Rattle.project_declarations.specs.Named.{each_from}
@@ -19,7 +20,6 @@ use Rattle.project_declarations.specs.declared.scopes.TheConstants as scope
 use Rattle.project_declarations.specs.declared.rows.What.{What}
 use Rattle.project_declarations.specs.declared.rows.What.TheVariants as what
 use Rattle.unit_rules.specs.Noted.{fault_where}
-use Rattle.unit_rules.specs.Standard.{is_standard_name}
 
 abbrev pub Row : Type 0
 Row = NameRow What

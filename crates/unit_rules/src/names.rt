@@ -10,12 +10,12 @@ use link_faults::{Faults, LinkCode};
 use project_declarations::{OUTERMOST, VALUES, What};
 use scope_names::{NameRow, Names, is_same_name};
 use st_tree::Site;
-use standard_names::is_standard;
+use standard_types::is_standard_name;
 
 fn is_taken(row: &NameRow<'_, What>) -> bool
     ensures { result ≡ spec.is_taken row.now }
 {
-    row.scope == OUTERMOST && is_standard(row.name)
+    row.scope == OUTERMOST && is_standard_name(row.name)
 }
 
 fn enumeration_of(what: What) -> Option<Site>

@@ -1,11 +1,9 @@
--- The test for names of the standard says what the tables of the standard say.
-use Rattle.std.proofs.Common.{◌≡◌, ◌∙◌, ◌⊎◌, inl, inr, ℕ, suc, Bool, true, false, cond, List, []}
-use Rattle.std.proofs.Common.{◌∷◌, ◌++◌, map, Option, Some, None, IsTrue, true≢false}
-use Rattle.std.proofs.Common.{ap, sym, refl, subst}
-use Rattle.std.specs.Prelude.{◌↔◌, flat_map, ◌||◌}
-use Rattle.std.specs.List.{list_any}
+-- The lists of functions and blocks have all of them, and no others.
+use Rattle.std.proofs.Common.{◌≡◌, ◌∙◌, ◌⊎◌, inl, inr, ℕ, Bool, true, false, cond, List, [], ◌∷◌}
+use Rattle.std.proofs.Common.{◌++◌, Option, Some, IsTrue, true≢false, ap, sym, subst, refl}
+use Rattle.std.specs.Prelude.{◌↔◌, flat_map}
 use Rattle.std.specs.Str.{bytes_eq}
-use Rattle.std.proofs.lemmas.Bool.Decides.{same_from_decides}
+use Rattle.std.specs.Option.{is_some}
 use Rattle.std.proofs.lemmas.List.Folds.{list_any-append}
 use Rattle.std.proofs.lemmas.Slice.Eq.{bytes_eq-Decides}
 use Rattle.iec_tables.specs.Conversions.{is_same}
@@ -13,7 +11,6 @@ use Rattle.iec_tables.specs.Types.{name_of}
 use Rattle.iec_tables.specs.Words.{raised_all}
 use Rattle.iec_tables.specs.declared.elem.Elem.{Elem}
 use Rattle.iec_tables.specs.declared.elem.Elem.TheVariants as elem
-use Rattle.expression_types.specs.Types.{order as types}
 use Rattle.standard_names.specs.Functions.{function_name, IsFunction, IsFunctionName}
 use Rattle.standard_names.specs.Blocks.{block_name, IsBlockName}
 use Rattle.standard_names.specs.declared.function.StandardFunction.{StandardFunction}
@@ -21,44 +18,16 @@ use Rattle.standard_names.specs.declared.function.StandardFunction.TheVariants a
 use Rattle.standard_names.specs.declared.block.StandardBlock.{StandardBlock}
 use Rattle.standard_names.specs.declared.block.StandardBlock.TheVariants as block
 use Rattle.standard_names.proofs.Names.{elems-alike}
-use Rattle.unit_rules.specs.Standard.{plain_functions, conversion, conversions_from, functions}
-use Rattle.unit_rules.specs.Standard.{blocks, standard_names, is_standard_name}
+use Rattle.standard_types.specs.Lists.{types, plain_functions, conversion, conversions_from}
+use Rattle.standard_types.specs.Lists.{functions, blocks, function_names, block_names}
+use Rattle.standard_types.specs.Names.{block_named, function_named, is_function_name}
+use Rattle.standard_types.specs.Names.{is_standard_name}
+use Rattle.standard_types.proofs.Searches.{Among, among_left, among_right, among_either, among_map}
+use Rattle.standard_types.proofs.Searches.{map_part, among_flat, tested, is_some_find, picked}
 
--- ---- members of lists
+-- ---- all of them
 
-abbrev Among : {A : Type 0} → A → List A → Type 0
-Among a [] = ⊥
-Among a (x ∷ xs) = (x ≡ a) ⊎ Among a xs
-
-among_left : {A : Type 0} (a : A) (xs ys : List A) → Among a xs → Among a (xs ++ ys)
-among_left a [] ys h = elim h [ ]
-among_left a (x ∷ xs) ys h = elim h as (λ _. Among a ((x ∷ xs) ++ ys)) [
-  | inl e ↦ inl e
-  | inr m ↦ inr (among_left a xs ys m)
-]
-
-among_right : {A : Type 0} (a : A) (xs ys : List A) → Among a ys → Among a (xs ++ ys)
-among_right a [] ys h = h
-among_right a (x ∷ xs) ys h = inr (among_right a xs ys h)
-
-among_map : {A B : Type 0} (f : A → B) (a : A) (xs : List A) → Among a xs → Among (f a) (map f xs)
-among_map f a [] h = elim h [ ]
-among_map f a (x ∷ xs) h = elim h as (λ _. Among (f a) (map f (x ∷ xs))) [
-  | inl e ↦ inl (ap f e)
-  | inr m ↦ inr (among_map f a xs m)
-]
-
-among_flat : {A B : Type 0} (f : A → List B) (a : A) (b : B) (xs : List A) → Among a xs
-    → Among b (f a) → Among b (flat_map f xs)
-among_flat f a b [] h k = elim h [ ]
-among_flat {B = B} f a b (x ∷ xs) h k = elim h as (λ _. Among b (flat_map f (x ∷ xs))) [
-  | inl e ↦ among_left b (f x) (flat_map f xs) (subst (λ y. Among b (f y)) (sym e) k)
-  | inr m ↦ among_right b (f x) (flat_map f xs) (among_flat f a b xs m k)
-]
-
--- ---- all of the tables
-
-among_types : (t : Elem) → Among t types
+pub among_types : (t : Elem) → Among t types
 among_types elem.Sint = inl refl
 among_types elem.Usint = inr (inl refl)
 among_types elem.Int = inr (inr (inl refl))
@@ -116,37 +85,7 @@ among_blocks block.Ton = inr (inr (inr (inr (inr (inr (inl refl))))))
 among_blocks block.Tof = inr (inr (inr (inr (inr (inr (inr (inl refl)))))))
 among_blocks block.Tp = inr (inr (inr (inr (inr (inr (inr (inr (inl refl))))))))
 
--- ---- from the tables to the test
-
-or_right : (b : Bool) → (b || true) ≡ true
-or_right true = refl
-or_right false = refl
-
-found : (name key : List ℕ) (keys : List (List ℕ)) → Among key keys → key ≡ name
-    → list_any (bytes_eq name) keys ≡ true
-found name key [] h e = elim h [ ]
-found name key (x ∷ xs) h e = elim h as (λ _. list_any (bytes_eq name) (x ∷ xs) ≡ true) [
-  | inl s ↦ ap (λ b. b || list_any (bytes_eq name) xs)
-      ((bytes_eq-Decides name x).1 (sym (s ∙ e)))
-  | inr m ↦ ap (λ b. bytes_eq name x || b) (found name key xs m e) ∙ or_right (bytes_eq name x)
-]
-
-to_test : (name : List ℕ) → IsFunctionName name ⊎ IsBlockName name
-    → list_any (bytes_eq name) standard_names ≡ true
-to_test name h = elim h as (λ _. list_any (bytes_eq name) standard_names ≡ true) [
-  | inl f ↦ found name (function_name f.0) standard_names
-      (among_left (function_name f.0) (map function_name functions) (map block_name blocks)
-      (among_map function_name f.0 functions (among_functions f.0 f.1))) f.2
-  | inr b ↦ found name (block_name b.0) standard_names
-      (among_right (block_name b.0) (map function_name functions) (map block_name blocks)
-      (among_map block_name b.0 blocks (among_blocks b.0))) b.1
-]
-
--- ---- from the test to the tables
-
-or_cases : (a b : Bool) → (a || b) ≡ true → (a ≡ true) ⊎ (b ≡ true)
-or_cases true b h = inl refl
-or_cases false b h = inr h
+-- ---- no others
 
 abbrev AllFunctions : List StandardFunction → Type 0
 AllFunctions [] = Unit {0}
@@ -176,40 +115,65 @@ all_functions =
     (functions_flat conversions_from types (λ a.
     functions_flat (conversion a) types (λ b. one_conversion a b (is_same a b) refl)))
 
-from_functions : (name : List ℕ) (fs : List StandardFunction) → AllFunctions fs
-    → list_any (bytes_eq name) (map function_name fs) ≡ true → IsFunctionName name
-from_functions name [] all h = absurd (true≢false (sym h))
-from_functions name (f ∷ fs) all h =
-    elim (or_cases (bytes_eq name (function_name f)) (list_any (bytes_eq name) (map function_name fs)) h)
-    as (λ _. IsFunctionName name) [
-      | inl e ↦ (f, all.0, sym ((bytes_eq-Decides name (function_name f)).0 e))
-      | inr e ↦ from_functions name fs all.1 e
+function_among : (f : StandardFunction) (fs : List StandardFunction) → AllFunctions fs → Among f fs
+    → IsFunction f
+function_among f [] all h = elim h [ ]
+function_among f (g ∷ gs) all h = elim h as (λ _. IsFunction f) [
+  | inl e ↦ subst IsFunction e all.0
+  | inr m ↦ function_among f gs all.1 m
+]
+
+-- ---- what the searches find
+
+pub function_is : (name : List ℕ) (r : Option StandardFunction)
+    → ((f : StandardFunction) → (r ≡ Some f) ↔ (IsFunction f × (function_name f ≡ raised_all name)))
+    → r ≡ function_named name
+unfolding function_named
+function_is name r h =
+    picked function_name (raised_all name) IsFunction functions r among_functions
+    (λ f m. function_among f functions all_functions m) h
+
+abbrev AnyBlock : StandardBlock → Type 0
+AnyBlock b = Unit {0}
+
+pub block_is : (name : List ℕ) (r : Option StandardBlock)
+    → ((b : StandardBlock) → (r ≡ Some b) ↔ (block_name b ≡ raised_all name)) → r ≡ block_named name
+unfolding block_named
+block_is name r h =
+    picked block_name (raised_all name) AnyBlock blocks r (λ b _. among_blocks b) (λ b _. tt)
+    (λ b. (λ e. (tt, (h b).0 e), λ k. (h b).1 k.1))
+
+pub function_name_is : (name : List ℕ) (f : Option StandardFunction) (r : Bool)
+    → f ≡ function_named name → r ≡ is_some f → r ≡ is_function_name name
+unfolding function_named is_function_name
+function_name_is name f r h k =
+    k ∙ ap is_some h ∙ is_some_find function_name (raised_all name) functions
+
+among_names : (s : List ℕ) → IsFunctionName s ⊎ IsBlockName s
+    → Among s (function_names ++ block_names)
+among_names s h = elim h as (λ _. Among s (function_names ++ block_names)) [
+  | inl f ↦ subst (λ t. Among t (function_names ++ block_names)) f.2
+      (among_left (function_name f.0) function_names block_names
+      (among_map function_name f.0 functions (among_functions f.0 f.1)))
+  | inr b ↦ subst (λ t. Among t (function_names ++ block_names)) b.1
+      (among_right (block_name b.0) function_names block_names
+      (among_map block_name b.0 blocks (among_blocks b.0)))
+]
+
+named_among : (s : List ℕ) → Among s (function_names ++ block_names)
+    → IsFunctionName s ⊎ IsBlockName s
+named_among s h =
+    elim (among_either s function_names block_names h) as (λ _. IsFunctionName s ⊎ IsBlockName s) [
+      | inl m ↦ let f = map_part function_name s functions m in
+          inl (f.0, function_among f.0 functions all_functions f.1, f.2)
+      | inr m ↦ let b = map_part block_name s blocks m in inr (b.0, b.2)
     ]
 
-from_blocks : (name : List ℕ) (bs : List StandardBlock)
-    → list_any (bytes_eq name) (map block_name bs) ≡ true → IsBlockName name
-from_blocks name [] h = absurd (true≢false (sym h))
-from_blocks name (b ∷ bs) h =
-    elim (or_cases (bytes_eq name (block_name b)) (list_any (bytes_eq name) (map block_name bs)) h)
-    as (λ _. IsBlockName name) [
-      | inl e ↦ (b, sym ((bytes_eq-Decides name (block_name b)).0 e))
-      | inr e ↦ from_blocks name bs e
-    ]
-
-from_test : (name : List ℕ) → list_any (bytes_eq name) standard_names ≡ true
-    → IsFunctionName name ⊎ IsBlockName name
-from_test name h =
-    elim (or_cases (list_any (bytes_eq name) (map function_name functions))
-    (list_any (bytes_eq name) (map block_name blocks))
-    (sym (list_any-append (bytes_eq name) (map function_name functions) (map block_name blocks)) ∙ h))
-    as (λ _. IsFunctionName name ⊎ IsBlockName name) [
-      | inl e ↦ inl (from_functions name functions all_functions e)
-      | inr e ↦ inr (from_blocks name blocks e)
-    ]
-
-pub standing_is : (name : List ℕ) (r : Bool)
+pub standard_name_is : (name : List ℕ) (r : Bool)
     → (IsTrue r ↔ (IsFunctionName (raised_all name) ⊎ IsBlockName (raised_all name)))
     → r ≡ is_standard_name name
-standing_is name r h =
-    same_from_decides r (is_standard_name name) (h.0, h.1)
-    (from_test (raised_all name), to_test (raised_all name))
+unfolding is_standard_name
+standard_name_is name r h =
+    tested (raised_all name) (function_names ++ block_names) r h (among_names (raised_all name))
+    (named_among (raised_all name))
+    ∙ list_any-append (bytes_eq (raised_all name)) function_names block_names

@@ -1,0 +1,6 @@
+use Rattle.standard_types.proofs.LeftOut.{left_out_function_is}
+use Rattle.standard_types.proofs.names.is_left_out_function.Goals as goal
+
+pub returns : goal.returns
+returns c =
+    left_out_function_is c.args.name.now c.is_left_out_function.result c.is_left_out_function.ensures
