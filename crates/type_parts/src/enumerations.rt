@@ -1,10 +1,10 @@
 // The enumerations of a project.
 
-ghost use Rattle.std.specs.Prelude.{◌≡◌, ◌<◌, Option, length, map, slice_get, IfOk, IfSome};
-ghost use Rattle.std.specs.Option.{option_map};
+ghost use Rattle.std.specs.Prelude.{◌≡◌, ◌<◌, length, map, IfOk, IfSome};
 ghost use Rattle.project_declarations.specs.Rows.{bare_decl};
-ghost use Rattle.type_parts.specs.Parts.{Enumeration, enumerations_of};
+ghost use Rattle.type_parts.specs.Parts.{enumerations_of};
 ghost use Rattle.type_parts.specs.Places as spec;
+ghost use Rattle.type_parts.specs.Tables.{listed};
 
 use crate::listed::Listed;
 use crate::listing::listed_in;
@@ -64,15 +64,11 @@ impl<'t> Enumerations<'t> {
         self.rows.len()
     }
 
-    /// How many values the enumeration of a number has, or None where there is no such enumeration.
-    pub fn values(&self, number: usize) -> Option<usize>
-        ensures { result ≡ option_map (λ (e : Enumeration). length e.values)
-            (slice_get self.now number) }
+    /// All of them, in the order of their numbers.
+    pub fn rows(&self) -> &[Listed<'t>]
+        ensures { map listed result.now ≡ self.now }
     {
-        match self.rows.get(number) {
-            None => None,
-            Some(row) => Some(row.values.len()),
-        }
+        &self.rows
     }
 
     /// The number of the first enumeration that is listed at a site, or None where there is none.

@@ -10,3 +10,4 @@ mod lists;
 
 pub use enumerations::Enumerations;
 pub use fields::StructureFields;
+pub use listed::Listed;

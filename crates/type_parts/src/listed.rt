@@ -1,5 +1,7 @@
 // Rows of the tables.
 
+ghost use Rattle.std.specs.Prelude.{◌≡◌, length};
+
 use st_tree::Site;
 
 /// An enumeration: where its values are listed, and the bytes of their names as they are written.
@@ -7,6 +9,15 @@ use st_tree::Site;
 pub struct Listed<'t> {
     pub(crate) site: Site,
     pub(crate) values: Vec<&'t [u8]>,
+}
+
+impl<'t> Listed<'t> {
+    /// How many values it has.
+    pub fn count(&self) -> usize
+        ensures { result ≡ length self.now.values.items }
+    {
+        self.values.len()
+    }
 }
 
 /// The names of the fields of a structure; none where a declaration declares no structure.

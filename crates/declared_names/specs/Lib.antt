@@ -1,0 +1,10 @@
+pub mod Project
+pub mod Shapes
+pub mod Seen
+pub mod NamedTypes
+pub mod Twice
+pub mod TypeValues
+pub mod Literals
+pub mod Meaning
+pub mod Files
+pub mod Tables
