@@ -1,7 +1,7 @@
 -- What a project declares, what is known of its declarations, and where one of them stands. Source: IEC
 -- 61131-3, scopes of identifiers, as this profile narrows them: a name is a variable of the unit's own,
 -- else a global one; a VAR_EXTERNAL stands for the global of its name.
-use Rattle.std.specs.Prelude.{ℕ, Bool, true, false, ◌&&◌, not, List, slice_get, Option, Some, None}
+use Rattle.std.specs.Prelude.{ℕ, nat_lt, Bool, true, false, ◌&&◌, not, if◌then◌else◌, List, length, slice_get, Option, Some, None}
 use Rattle.std.specs.Option.{option_and_then, option_map}
 use Rattle.st_tree.specs.declared.node.Site.{Site}
 use Rattle.st_tree.specs.declared.declaration.Keep.{Keep}
@@ -49,6 +49,10 @@ pub record Here : Type 0 where
 abbrev pub here : ℕ → Declaration → Here
 here n d = record { number = n; file = d.file; owner = d.owner }
 
+-- outside all units, in no declaration
+abbrev pub outside : Project → Here
+outside p = record { number = length p.decls; file = 0; owner = owner.Global None }
+
 -- ---- names
 
 -- the scope of the unit's own variables
@@ -67,6 +71,11 @@ number_there p site = option_and_then (number_at p.decls) site
 -- the declaration of the variable that a name stands for in a scope
 abbrev pub number_named : Project → ℕ → List ℕ → Option ℕ
 number_named p scope name = number_there p (variable_site (finds p scope name))
+
+-- a variable of the unit of a number
+abbrev pub number_in_unit : Project → UnitNo → List ℕ → Option ℕ
+number_in_unit p unit name =
+    if nat_lt unit.0 (length p.units) then number_named p (scopes.locals unit.0) name else None
 
 abbrev pub global_number : Project → List ℕ → Option ℕ
 global_number p name = number_there p (global_named (finds p) name)

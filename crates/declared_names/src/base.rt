@@ -169,6 +169,17 @@ pub fn number_named(project: &Project<'_>, scope: u32, name: &[u8]) -> Option<us
     number_there(project, variable_site(found(project, scope, name)))
 }
 
+/// The number of the declaration of a variable of a unit.
+pub fn number_in_unit(project: &Project<'_>, unit: UnitNo, name: &[u8]) -> Option<usize>
+    ensures { result ≡ spec.number_in_unit (project_in project.now) unit name.now }
+{
+    if (unit.0 as usize) < project.units.len() {
+        number_named(project, unit.0 * 3 + 6, name)
+    } else {
+        None
+    }
+}
+
 /// A unit by its number.
 pub fn unit_at<'a, 't>(project: &'a Project<'t>, unit: UnitNo) -> Option<&'a UnitRow<'t>>
     ensures { option_map (λ row. bare_unit row.now) result

@@ -1,7 +1,8 @@
 // Projects from files, and the order in which their declarations can be computed.
 
-ghost use Rattle.std.specs.Prelude.{◌≡◌, ◌+◌, ◌≤◌, ◌^◌, map, IfOk};
-ghost use Rattle.project_declarations.specs.Rows.{bare_decl};
+ghost use Rattle.std.specs.Prelude.{◌≡◌, ◌+◌, ◌<◌, ◌≤◌, ◌^◌, map, IfOk};
+ghost use Rattle.project_declarations.specs.Scopes as scopes;
+ghost use Rattle.project_declarations.specs.Rows.{bare_decl, bare_unit};
 ghost use Rattle.declaration_order.specs.LeadBack.{AreDeclComponents};
 ghost use Rattle.declaration_order.specs.Computable.{IsComputingOrder};
 ghost use Rattle.declared_names.specs.Files.{IsProject};
@@ -10,7 +11,7 @@ ghost use Rattle.declared_names.specs.Tables.{project_in};
 
 use crate::project::Project;
 use declaration_order::{DeclTable, computing_order, decl_components};
-use project_declarations::{Collected, DeclRow, collect};
+use project_declarations::{Collected, DeclRow, UnitRow, What, collect, locals};
 use scope_names::Names;
 use st_tree::SourceTree;
 use station_ports::outside::NoMemory;
@@ -22,6 +23,18 @@ fn first_behind(units: usize) -> Result<u32, NoMemory>
 {
     match u32::try_from(units) {
         Ok(count) => count.checked_add(9).ok_or(NoMemory),
+        Err(_) => Err(NoMemory),
+    }
+}
+
+fn scopes_fit(units: usize) -> Result<(), NoMemory>
+    ensures { IfOk result (λ done. scopes.locals units < 2 ^ 32) }
+{
+    match u32::try_from(units) {
+        Ok(count) => {
+            let _last = locals(count)?;
+            Ok(())
+        },
         Err(_) => Err(NoMemory),
     }
 }
@@ -55,6 +68,7 @@ impl<'t> Project<'t> {
         let fields = StructureFields::of(alloc, &decls)?;
         let table = DeclTable::of(alloc, decls)?;
         let components = decl_components(alloc, &table, &names)?;
+        scopes_fit(units.len())?;
         let first_listed = first_behind(units.len())?;
         has_room(first_listed, enumerations.count())?;
         Ok(Project {
@@ -73,6 +87,20 @@ impl<'t> Project<'t> {
         ensures { map bare_decl result.now ≡ (project_in self.now).decls }
     {
         self.table.rows()
+    }
+
+    /// The names of all scopes.
+    pub fn names(&self) -> &Names<'t, What>
+        ensures { result.now ≡ (project_in self.now).names }
+    {
+        &self.names
+    }
+
+    /// All units, in the order of their numbers.
+    pub fn units(&self) -> &[UnitRow<'t>]
+        ensures { map bare_unit result.now ≡ (project_in self.now).units }
+    {
+        &self.units
     }
 
     /// The numbers of all declarations, in an order in which they can be computed: each behind those that

@@ -21,7 +21,7 @@ pub use at::At;
 pub use back::{expr_leads_back, init_leads_back};
 pub use base::{
     found, given_at, global_number, in_function, is_constant, is_external, is_function,
-    is_own_variable, number_named, number_there, own_number, owner_at, unit_at,
+    is_own_variable, number_in_unit, number_named, number_there, own_number, owner_at, unit_at,
 };
 pub use literals::{literal, milliseconds, typed_literal};
 pub use project::Project;

@@ -1,6 +1,7 @@
 // What the files of a project declare, as tables.
 
-ghost use Rattle.std.specs.Prelude.{◌≡◌, ◌+◌, ◌≤◌, ◌^◌, length};
+ghost use Rattle.std.specs.Prelude.{◌≡◌, ◌+◌, ◌<◌, ◌≤◌, ◌^◌, length};
+ghost use Rattle.project_declarations.specs.Scopes as scopes;
 ghost use Rattle.declaration_order.specs.Tables.{decls_in};
 ghost use Rattle.type_parts.specs.Parts.{enumerations_of, structures_of};
 
@@ -23,5 +24,6 @@ pub struct Project<'t> {
     ghost first_is: { first_listed ≡ 9 + length units.items },
     ghost listed: { enumerations ≡ enumerations_of (decls_in table) },
     ghost structures: { fields ≡ structures_of (decls_in table) },
+    ghost scopes_fit: { scopes.locals (length units.items) < 2 ^ 32 },
     ghost fits: { first_listed + length (enumerations_of (decls_in table)) ≤ 2 ^ 32 },
 }

@@ -46,6 +46,21 @@ impl<'a, 't> At<'a, 't> {
         })
     }
 
+    /// Where expressions of configurations stand: outside all units, in no declaration.
+    pub fn outside(project: &'a Project<'t>, given: &'a [Option<Given>]) -> At<'a, 't>
+        ensures known { known_at result ≡ spec.known (project_in project.now) given.now }
+        ensures here { here_of result ≡ spec.outside (project_in project.now) }
+    {
+        At {
+            project,
+            given,
+            number: project.table.rows().len(),
+            file: 0,
+            owner: Owner::Global(None),
+            own: None,
+        }
+    }
+
     /// The place of the declaration's file among the project's files.
     pub fn file(&self) -> u16
         ensures { result ≡ (here_of self.now).file }

@@ -11,3 +11,4 @@ mod lists;
 pub use enumerations::Enumerations;
 pub use fields::StructureFields;
 pub use listed::Listed;
+pub use lists::is_name;

@@ -9,7 +9,8 @@ use st_tree::Identifier;
 use std::alloc::AllocError;
 use std::cmp::Ordering;
 
-fn is_name(name: &[u8], x: &[u8]) -> bool
+/// Whether two names are the same, letter case left aside.
+pub fn is_name(name: &[u8], x: &[u8]) -> bool
     ensures { result ≡ spec.is_name name.now x.now }
 {
     match compare_names(x, name) {
