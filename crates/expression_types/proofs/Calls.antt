@@ -13,8 +13,8 @@ use Rattle.expression_types.specs.Lists.{TellsAll}
 use Rattle.expression_types.specs.steps.Several.{still_good, where_all}
 use Rattle.expression_types.specs.Meanings.{Meanings, Function}
 use Rattle.expression_types.specs.Inputs as inputs
-use Rattle.expression_types.specs.Reads.{Read, ReadPart, ReadPath, ReadArgument, part_in, argument_in, path_in}
-use Rattle.expression_types.specs.Calls.{names_of, given, all_given, where_fits, function_called, result_of_type}
+use Rattle.expression_types.specs.Reads.{Read, ReadPart, ReadPath, ReadArgument, names_of, part_in, argument_in, path_in}
+use Rattle.expression_types.specs.Calls.{given, all_given, where_fits, function_called, result_of_type}
 use Rattle.expression_types.specs.Judge.{read, read_in, read_argument}
 use Rattle.expression_types.specs.declared.judged.Judged.{Judged}
 use Rattle.expression_types.specs.declared.judged.Standing.{Standing}
@@ -70,10 +70,16 @@ read_of_argument m c y =
     ∙ fold-roll-Argument Read ReadPart ReadArgument ReadPath (read_in m c) (part_in m c) argument_in
     (path_in m c) y
 
-argument_same : (m : Meanings) (c : Standing) (a : Argument)
+pub argument_same : (m : Meanings) (c : Standing) (a : Argument)
     → (read_argument m c a).name ≡ a.name
 argument_same m c a =
     ap (λ (r : ReadArgument). r.name)
+    (read_of_argument m c (record { node = a.node; name = a.name; value = a.value }))
+
+pub value_same : (m : Meanings) (c : Standing) (a : Argument)
+    → (read_argument m c a).value ≡ read m c a.value
+value_same m c a =
+    ap (λ (r : ReadArgument). r.value)
     (read_of_argument m c (record { node = a.node; name = a.name; value = a.value }))
 
 pub names_same : (m : Meanings) (c : Standing) (items : List Argument)

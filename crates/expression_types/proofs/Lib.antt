@@ -5,3 +5,6 @@ mod Indices
 mod Operands
 mod Steps
 mod Calls
+mod Placing
+mod Sharing
+mod Standard

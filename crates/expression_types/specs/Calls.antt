@@ -1,17 +1,17 @@
--- Calls of functions of the project: what is asked of each argument, and what the call is. Source:
--- IEC 61131-3, calls of functions; which faults stand, and where, is this profile's. A call is
--- never constant.
-use Rattle.std.specs.Prelude.{ℕ, suc, Bool, true, false, if◌then◌else◌, List, [], ◌∷◌, map, Option, Some, None}
+-- Calls of functions: of those of the project what is asked of each argument, and what the call is;
+-- those of the standard stand in StandardCalls. Source: IEC 61131-3, calls of functions; which faults
+-- stand, and where, is this profile's. A call is never constant.
+use Rattle.std.specs.Prelude.{ℕ, suc, Bool, true, false, if◌then◌else◌, List, [], ◌∷◌, Option, Some, None}
 use Rattle.st_tree.specs.declared.node.Node.{Node}
-use Rattle.st_tree.specs.declared.expression.Identifier.{Identifier}
 use Rattle.link_faults.specs.declared.code.LinkCode.{LinkCode}
 use Rattle.link_faults.specs.declared.code.LinkCode.TheVariants as code
-use Rattle.link_faults.specs.Checked.{Checked, Good, bind, both, unusable}
+use Rattle.link_faults.specs.Checked.{Checked, Good, bind, unusable}
 use Rattle.expression_types.specs.Lists.{with_all}
 use Rattle.expression_types.specs.Meanings.{Meanings, Input, Function}
 use Rattle.expression_types.specs.Inputs.{is_enable, taken_at, place_given, fits_function}
 use Rattle.expression_types.specs.Rules.{wrong_at, typed, varying}
-use Rattle.expression_types.specs.Reads.{Read, ReadArgument, placed_read, arguments_in, argument_value}
+use Rattle.expression_types.specs.Reads.{Read, ReadArgument, placed_read, arguments_in, names_of, enabled}
+use Rattle.expression_types.specs.StandardCalls.{standard_called}
 use Rattle.expression_types.specs.declared.judged.ExprType.{ExprType}
 use Rattle.expression_types.specs.declared.judged.ExprType.TheVariants as ty
 use Rattle.expression_types.specs.declared.judged.Judged.{Judged}
@@ -23,9 +23,6 @@ use Rattle.expression_types.specs.declared.meaning.Taken.{Taken}
 use Rattle.expression_types.specs.declared.meaning.Taken.TheVariants as taken
 use Rattle.expression_types.specs.declared.meaning.ValueType.{ValueType}
 
-abbrev pub names_of : List ReadArgument → List (Option Identifier)
-names_of arguments = map (λ (a : ReadArgument). a.name) arguments
-
 -- where nothing can be called so, the values of the arguments are judged all the same
 abbrev pub uncalled : Meanings → Standing → Node → LinkCode → List ReadArgument → Checked Judged
 uncalled m c node fault arguments = with_all (wrong_at c node fault) (arguments_in m c arguments)
@@ -34,14 +31,6 @@ uncalled m c node fault arguments = with_all (wrong_at c node fault) (arguments_
 abbrev pub where_fits : Standing → Node → Bool → Checked Judged → Checked Judged
 where_fits c node true result = result
 where_fits c node false result = wrong_at c node code.WrongCall
-
-abbrev pub enable_fault : Standing → Node → Checked Judged
-enable_fault c node = wrong_at c node code.OutOfProfile
-
--- EN and ENO are out of profile; their values are judged all the same
-abbrev pub enabled : Meanings → Standing → ReadArgument → Option Identifier → Checked Judged
-enabled m c a None = argument_value m c a
-enabled m c a (Some i) = both (enable_fault c i.node) (argument_value m c a) (λ e j. Good j)
 
 -- ---- functions of the project
 
@@ -92,3 +81,4 @@ call_of m c node callee.Unknown arguments = uncalled m c node code.WrongCall arg
 call_of m c node callee.LeftOut arguments = uncalled m c node code.OutOfProfile arguments
 call_of m c node (callee.Function f) arguments =
     function_called m c node (m.parts.function f) arguments
+call_of m c node (callee.Standard f) arguments = standard_called m c node f arguments

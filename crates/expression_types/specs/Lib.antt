@@ -5,5 +5,8 @@ pub mod Lists
 pub mod Rules
 pub mod Reads
 pub mod Inputs
+pub mod StandardInputs
+pub mod Shared
+pub mod StandardCalls
 pub mod Calls
 pub mod Judge

@@ -17,7 +17,7 @@ use Rattle.st_tree.specs.declared.expression.Expr.TheOpen.{Part-F, Argument-F, P
 use Rattle.link_faults.specs.declared.code.LinkCode.TheVariants as code
 use Rattle.link_faults.specs.declared.fault.LinkFault.{LinkFault}
 use Rattle.link_faults.specs.Checked.{Checked, Good, Bad, answer, provided, bind, both, unusable}
-use Rattle.expression_types.specs.Types.{is_integer, common, own_type}
+use Rattle.expression_types.specs.Types.{is_integer, is_bit_string, common, own_type}
 use Rattle.expression_types.specs.Lists.{faults_of, with_all}
 use Rattle.expression_types.specs.Meanings.{Meanings}
 use Rattle.expression_types.specs.Rules.{Group, Logic, Equality, Order, Arithmetic, site_of, wrong_at, typed, plain, varying, without_own, used, foreign, group_of, arithmetic, operation, at_common, negated_at, negated, inverted}
@@ -77,9 +77,15 @@ fits_integer (ty.Elem s) = is_integer s
 fits_integer ty.Loose = false
 fits_integer (ty.Other shape) = false
 
+abbrev pub fits_bits : ExprType → Bool
+fits_bits (ty.Elem s) = is_bit_string s
+fits_bits ty.Loose = false
+fits_bits (ty.Other shape) = false
+
 abbrev pub fits : Meanings → Place → ExprType → Bool
 fits m place.Any t = true
 fits m place.Integer t = fits_integer t
+fits m place.Bits t = fits_bits t
 fits m (place.Elem t) s = fits_elem t s
 fits m (place.Shape a) (ty.Other b) = m.names.is_same a b
 fits m (place.Shape a) ty.Loose = false
@@ -94,6 +100,7 @@ abbrev pub settled_at : Standing → Place → Read → Checked Judged
 settled_at c (place.Elem t) x = x.settled t
 settled_at c place.Any x = settled_by c x (own_type x.holds)
 settled_at c place.Integer x = settled_by c x (own_type x.holds)
+settled_at c place.Bits x = settled_by c x (own_type x.holds)
 settled_at c (place.Shape shape) x = settled_by c x (own_type x.holds)
 
 -- the place's rule comes before a fault of its own, which stands at the same node
@@ -301,3 +308,14 @@ argument_value m c argument = placed_read m c place.Any argument.value
 
 abbrev pub arguments_in : Meanings → Standing → List ReadArgument → List (Checked Judged)
 arguments_in m c arguments = map (argument_value m c) arguments
+
+abbrev pub names_of : List ReadArgument → List (Option Identifier)
+names_of arguments = map (λ (a : ReadArgument). a.name) arguments
+
+abbrev pub enable_fault : Standing → Node → Checked Judged
+enable_fault c node = wrong_at c node code.OutOfProfile
+
+-- EN and ENO are out of profile; their values are judged all the same
+abbrev pub enabled : Meanings → Standing → ReadArgument → Option Identifier → Checked Judged
+enabled m c a None = argument_value m c a
+enabled m c a (Some i) = both (enable_fault c i.node) (argument_value m c a) (λ e j. Good j)

@@ -21,6 +21,10 @@ is_bits_family Bits = true
 is_bits_family Truth = true
 is_bits_family _ = false
 
+abbrev pub is_string_family : Family → Bool
+is_string_family Bits = true
+is_string_family _ = false
+
 abbrev pub is_duration_family : Family → Bool
 is_duration_family Duration = true
 is_duration_family _ = false
@@ -31,6 +35,10 @@ is_integer t = is_integer_family (family_of t)
 -- BOOL and the bit strings
 abbrev pub is_bits : Elem → Bool
 is_bits t = is_bits_family (family_of t)
+
+-- bit strings, without BOOL
+abbrev pub is_bit_string : Elem → Bool
+is_bit_string t = is_string_family (family_of t)
 
 -- integers and TIME
 abbrev pub is_counted : Elem → Bool

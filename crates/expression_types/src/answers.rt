@@ -1,6 +1,6 @@
 // Answers of several parts that stand side by side.
 
-ghost use Rattle.std.specs.Prelude.{◌≡◌};
+ghost use Rattle.std.specs.Prelude.{◌≡◌, ◌&&◌};
 ghost use Rattle.expression_types.specs.steps.Several as spec;
 
 use crate::judged::Judged;
@@ -13,6 +13,13 @@ pub(crate) fn still_good(all: bool, next: Option<Judged>) -> bool
         Some(_) => all,
         None => false,
     }
+}
+
+/// Whether all are good, several more of them.
+pub(crate) fn all_good(all: bool, next: bool) -> bool
+    ensures { result ≡ (all && next) }
+{
+    all && next
 }
 
 /// The answer, where those beside it are good, too.

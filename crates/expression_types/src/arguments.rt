@@ -11,7 +11,7 @@ use iec_tables::letters::raise;
 use st_tree::{Argument, Identifier};
 
 /// Whether the text is the name with letters raised.
-fn is_same_name(text: &[u8], name: &[u8]) -> bool
+pub(crate) fn is_same_name(text: &[u8], name: &[u8]) -> bool
     ensures { result ≡ bytes_eq text.now (raised_all name.now) }
 {
     match text {
@@ -23,7 +23,7 @@ fn is_same_name(text: &[u8], name: &[u8]) -> bool
     }
 }
 
-fn is_enabling(name: &[u8]) -> bool
+pub(crate) fn is_enabling(name: &[u8]) -> bool
     ensures { result ≡ spec.is_enabling (raised_all name.now) }
 {
     is_same_name(b"EN", name) || is_same_name(b"ENO", name)
@@ -60,7 +60,7 @@ fn is_given(by_name: bool, name: &Option<Identifier>) -> bool
 
 /// Whether all arguments stand by name, or all by place.
 #[tactic(auto, using(crate::proofs::Steps::all_next, crate::proofs::Steps::all_stop))]
-fn are_given(arguments: &[Argument], by_name: bool) -> bool
+pub(crate) fn are_given(arguments: &[Argument], by_name: bool) -> bool
     ensures { result ≡ spec.are_given by_name (map (λ (a : AnArgument). a.name) arguments.now) }
 {
     for i in 0..arguments.len() {

@@ -1,16 +1,20 @@
 // What an expression is, or its faults: each call notes the first fault, and answers None where there is
 // one, or where what is faulty elsewhere is used.
 
-ghost use Rattle.std.specs.Prelude.{◌≡◌, Some, map};
+ghost use Rattle.std.specs.Prelude.{◌≡◌, ◌<◌, [], ◌∷◌, Some, length, map};
 ghost use Rattle.link_faults.specs.Checked.{Tells};
 ghost use Rattle.expression_types.specs.Lists.{TellsAll};
 ghost use Rattle.expression_types.specs.Meanings.{meant};
 ghost use Rattle.expression_types.specs.Reads as reads;
 ghost use Rattle.expression_types.specs.Calls as calls;
+ghost use Rattle.expression_types.specs.Shared as shared;
+ghost use Rattle.expression_types.specs.StandardCalls as standard;
+ghost use Rattle.expression_types.specs.steps.Three as three;
+ghost use Rattle.expression_types.specs.declared.judged.Place.TheVariants as place;
 ghost use Rattle.expression_types.specs.Judge as spec;
 ghost use Rattle.expression_types.specs.declared.meaning.Taken.TheVariants as taken;
 
-use crate::answers::{still_good, where_all};
+use crate::answers::{all_good, still_good, where_all};
 use crate::arguments::{fits_function, is_undeclared, place_given};
 use crate::function_calls::{function_result, taken_by, whole_code};
 use crate::judged::{ExprType, Judged, Place, Standing};
@@ -23,11 +27,15 @@ use crate::rules::{
     known, known_number, number_literal, plain, truth_number, typed, typed_literal, used,
     value_of_type, varying, without_own, wrong,
 };
+use crate::shared::{elementary, of_three, of_two};
+use crate::standard_calls::{its_type, this_type};
+use crate::standard_inputs::{is_left_out, places_given};
 use iec_tables::elem::Elem;
 use link_faults::{Faults, LinkCode};
 use st_tree::{
     Argument, BinaryOperator, Expr, Identifier, Node, Number, Part, Path, UnaryOperator,
 };
+use standard_names::StandardFunction;
 
 /// Whether all indices are integers.
 #[cycle(expression)]
@@ -256,7 +264,9 @@ fn uncalled<M: Meaning>(
     code: LinkCode,
     arguments: &[Argument],
 ) -> Option<Judged>
-    ensures { Tells (calls.uncalled (meant (M.names meaning.now) (M.parts meaning.now)) standing node code (map (spec.read_argument (meant (M.names meaning.now) (M.parts meaning.now)) standing)
+    ensures { Tells (calls.uncalled (meant (M.names meaning.now) (M.parts meaning.now)) standing
+        node code (map (spec.read_argument (meant (M.names meaning.now) (M.parts meaning.now))
+        standing)
         arguments.now)) faults.old faults.new result }
 {
     let called = wrong(faults, standing, node, code);
@@ -273,7 +283,9 @@ fn enabled<M: Meaning>(
     faults: &mut Faults,
     argument: &Argument,
 ) -> Option<Judged>
-    ensures { Tells (calls.enabled (meant (M.names meaning.now) (M.parts meaning.now)) standing (spec.read_argument (meant (M.names meaning.now) (M.parts meaning.now)) standing argument.now)
+    ensures { Tells (reads.enabled (meant (M.names meaning.now) (M.parts meaning.now)) standing
+        (spec.read_argument (meant (M.names meaning.now) (M.parts meaning.now)) standing
+        argument.now)
         argument.now.name) faults.old faults.new result }
 {
     match &argument.name {
@@ -297,7 +309,9 @@ fn whole_value<M: Meaning>(
     faults: &mut Faults,
     e: &Expr,
 ) -> Option<Judged>
-    ensures { Tells (calls.value_taken (meant (M.names meaning.now) (M.parts meaning.now)) standing (spec.read (meant (M.names meaning.now) (M.parts meaning.now)) standing e.now) (Some taken.Nothing))
+    ensures { Tells (calls.value_taken (meant (M.names meaning.now) (M.parts meaning.now)) standing
+        (spec.read (meant (M.names meaning.now) (M.parts meaning.now)) standing e.now) (Some
+        taken.Nothing))
         faults.old faults.new result }
 {
     match placed(meaning, standing, faults, Place::Any, e) {
@@ -321,7 +335,8 @@ fn value_taken<M: Meaning>(
     e: &Expr,
     taken: Option<Taken>,
 ) -> Option<Judged>
-    ensures { Tells (calls.value_taken (meant (M.names meaning.now) (M.parts meaning.now)) standing (spec.read (meant (M.names meaning.now) (M.parts meaning.now)) standing e.now) taken)
+    ensures { Tells (calls.value_taken (meant (M.names meaning.now) (M.parts meaning.now)) standing
+        (spec.read (meant (M.names meaning.now) (M.parts meaning.now)) standing e.now) taken)
         faults.old faults.new result }
 {
     match taken {
@@ -344,7 +359,8 @@ fn given<M: Meaning>(
     at: usize,
     argument: &Argument,
 ) -> Option<Judged>
-    ensures { Tells (calls.given (meant (M.names meaning.now) (M.parts meaning.now)) standing ((M.parts meaning.now).function function) at
+    ensures { Tells (calls.given (meant (M.names meaning.now) (M.parts meaning.now)) standing
+        ((M.parts meaning.now).function function) at
         (spec.read_argument (meant (M.names meaning.now) (M.parts meaning.now)) standing argument.now)) faults.old faults.new result }
 {
     if is_undeclared(meaning, function, &argument.name) {
@@ -366,7 +382,8 @@ fn are_all_given<M: Meaning>(
     function: FunctionNo,
     arguments: &[Argument],
 ) -> bool
-    ensures { TellsAll (calls.all_given (meant (M.names meaning.now) (M.parts meaning.now)) standing ((M.parts meaning.now).function function) 0
+    ensures { TellsAll (calls.all_given (meant (M.names meaning.now) (M.parts meaning.now)) standing
+        ((M.parts meaning.now).function function) 0
         (map (spec.read_argument (meant (M.names meaning.now) (M.parts meaning.now)) standing) arguments.now)) faults.old faults.new result }
 {
     let mut all = true;
@@ -389,7 +406,8 @@ fn function_call<M: Meaning>(
     function: FunctionNo,
     arguments: &[Argument],
 ) -> Option<Judged>
-    ensures { Tells (calls.function_called (meant (M.names meaning.now) (M.parts meaning.now)) standing node ((M.parts meaning.now).function
+    ensures { Tells (calls.function_called (meant (M.names meaning.now) (M.parts meaning.now))
+        standing node ((M.parts meaning.now).function
         function) (map (spec.read_argument (meant (M.names meaning.now) (M.parts meaning.now)) standing) arguments.now)) faults.old faults.new
         result }
 {
@@ -397,6 +415,308 @@ fn function_call<M: Meaning>(
     let called = function_result(meaning, standing, faults, node, function, fits);
     let all = are_all_given(meaning, standing, faults, function, arguments);
     where_all(all, called)
+}
+
+// ---- functions of the standard
+
+/// An operand that shares the type of others.
+#[cycle(expression)]
+#[tactic(auto, using(crate::proofs::Told::bind_some, crate::proofs::Told::bind_none))]
+fn sharing<M: Meaning>(
+    meaning: &M,
+    standing: Standing,
+    faults: &mut Faults,
+    e: &Expr,
+) -> Option<Judged>
+    ensures { Tells (shared.sharing standing (spec.read (meant (M.names meaning.now) (M.parts
+        meaning.now)) standing e.now)) faults.old faults.new result }
+{
+    match judge(meaning, standing, faults, e) {
+        Some(judged) => elementary(faults, standing, node_of(meaning, standing, e), judged),
+        None => None,
+    }
+}
+
+/// Two operands of one type, by the places of their arguments.
+#[cycle(expression)]
+fn shared_by_two<M: Meaning>(
+    meaning: &M,
+    standing: Standing,
+    faults: &mut Faults,
+    node: Node,
+    arguments: &[Argument],
+    p: usize,
+    q: usize,
+) -> Option<Judged>
+    requires first { p < length arguments.now }
+    requires second { q < length arguments.now }
+    ensures { Tells (shared.shared (meant (M.names meaning.now) (M.parts meaning.now)) standing node
+        ((three.value_or (map (spec.read_argument (meant (M.names meaning.now) (M.parts
+        meaning.now)) standing) arguments.now) p) ∷ (three.value_or (map (spec.read_argument (meant
+        (M.names meaning.now) (M.parts meaning.now)) standing) arguments.now) q) ∷ [])) faults.old
+        faults.new result }
+{
+    let x = arguments[p].value.get();
+    let y = arguments[q].value.get();
+    let i = sharing(meaning, standing, faults, x);
+    let j = sharing(meaning, standing, faults, y);
+    of_two(meaning, standing, faults, node, x, y, i, j)
+}
+
+/// Three operands of one type.
+#[cycle(expression)]
+fn shared_by_three<M: Meaning>(
+    meaning: &M,
+    standing: Standing,
+    faults: &mut Faults,
+    node: Node,
+    arguments: &[Argument],
+    p: usize,
+    q: usize,
+    r: usize,
+) -> Option<Judged>
+    requires first { p < length arguments.now }
+    requires second { q < length arguments.now }
+    requires third { r < length arguments.now }
+    ensures { Tells (shared.shared (meant (M.names meaning.now) (M.parts meaning.now)) standing node
+        ((three.value_or (map (spec.read_argument (meant (M.names meaning.now) (M.parts
+        meaning.now)) standing) arguments.now) p) ∷ (three.value_or (map (spec.read_argument (meant
+        (M.names meaning.now) (M.parts meaning.now)) standing) arguments.now) q) ∷ (three.value_or
+        (map (spec.read_argument (meant (M.names meaning.now) (M.parts meaning.now)) standing)
+        arguments.now) r) ∷ [])) faults.old faults.new result }
+{
+    let x = arguments[p].value.get();
+    let y = arguments[q].value.get();
+    let z = arguments[r].value.get();
+    let i = sharing(meaning, standing, faults, x);
+    let j = sharing(meaning, standing, faults, y);
+    let k = sharing(meaning, standing, faults, z);
+    of_three(meaning, standing, faults, node, x, y, z, i, j, k)
+}
+
+/// One of two by a BOOL.
+#[cycle(expression)]
+fn selected<M: Meaning>(
+    meaning: &M,
+    standing: Standing,
+    faults: &mut Faults,
+    node: Node,
+    arguments: &[Argument],
+    p: usize,
+    q: usize,
+    r: usize,
+) -> Option<Judged>
+    requires first { p < length arguments.now }
+    requires second { q < length arguments.now }
+    requires third { r < length arguments.now }
+    ensures { Tells (standard.selected (meant (M.names meaning.now) (M.parts meaning.now)) standing
+        node (three.value_or (map (spec.read_argument (meant (M.names meaning.now) (M.parts
+        meaning.now)) standing) arguments.now) p) (three.value_or (map (spec.read_argument (meant
+        (M.names meaning.now) (M.parts meaning.now)) standing) arguments.now) q) (three.value_or
+        (map (spec.read_argument (meant (M.names meaning.now) (M.parts meaning.now)) standing)
+        arguments.now) r)) faults.old faults.new result }
+{
+    let called = shared_by_two(meaning, standing, faults, node, arguments, q, r);
+    let g = arguments[p].value.get();
+    let beside = placed(meaning, standing, faults, Place::Elem(Elem::Bool), g);
+    where_all(still_good(true, beside), called)
+}
+
+/// A value at its place, where the call is of its type.
+#[cycle(expression)]
+fn of_its_type<M: Meaning>(
+    meaning: &M,
+    standing: Standing,
+    faults: &mut Faults,
+    place: Place,
+    arguments: &[Argument],
+    p: usize,
+) -> Option<Judged>
+    requires { p < length arguments.now }
+    ensures { Tells (standard.of_its_type standing (reads.placed_read (meant (M.names meaning.now)
+        (M.parts meaning.now)) standing place (three.value_or (map (spec.read_argument (meant
+        (M.names meaning.now) (M.parts meaning.now)) standing) arguments.now) p))) faults.old
+        faults.new result }
+{
+    let x = arguments[p].value.get();
+    let value = placed(meaning, standing, faults, place, x);
+    its_type(standing, value)
+}
+
+/// A value at a type, where the call is of another.
+#[cycle(expression)]
+fn converted<M: Meaning>(
+    meaning: &M,
+    standing: Standing,
+    faults: &mut Faults,
+    from: Elem,
+    to: Elem,
+    arguments: &[Argument],
+    p: usize,
+) -> Option<Judged>
+    requires { p < length arguments.now }
+    ensures { Tells (standard.of_type standing to (reads.placed_read (meant (M.names meaning.now)
+        (M.parts meaning.now)) standing (place.Elem from) (three.value_or (map (spec.read_argument
+        (meant (M.names meaning.now) (M.parts meaning.now)) standing) arguments.now) p))) faults.old
+        faults.new result }
+{
+    let x = arguments[p].value.get();
+    let value = placed(meaning, standing, faults, Place::Elem(from), x);
+    this_type(standing, ExprType::Elem(to), value)
+}
+
+/// A bit string by a number of places.
+#[cycle(expression)]
+fn shifted<M: Meaning>(
+    meaning: &M,
+    standing: Standing,
+    faults: &mut Faults,
+    arguments: &[Argument],
+    p: usize,
+    q: usize,
+) -> Option<Judged>
+    requires first { p < length arguments.now }
+    requires second { q < length arguments.now }
+    ensures { Tells (standard.shifted (meant (M.names meaning.now) (M.parts meaning.now)) standing
+        (three.value_or (map (spec.read_argument (meant (M.names meaning.now) (M.parts meaning.now))
+        standing) arguments.now) p) (three.value_or (map (spec.read_argument (meant (M.names
+        meaning.now) (M.parts meaning.now)) standing) arguments.now) q)) faults.old faults.new
+        result }
+{
+    let called = of_its_type(meaning, standing, faults, Place::Bits, arguments, p);
+    let n = arguments[q].value.get();
+    let beside = placed(meaning, standing, faults, Place::Integer, n);
+    where_all(still_good(true, beside), called)
+}
+
+/// The call by the places of the arguments that give its inputs.
+#[cycle(expression)]
+fn standard_result<M: Meaning>(
+    meaning: &M,
+    standing: Standing,
+    faults: &mut Faults,
+    node: Node,
+    called: StandardFunction,
+    arguments: &[Argument],
+    p: usize,
+    q: usize,
+    r: usize,
+) -> Option<Judged>
+    requires first { p < length arguments.now }
+    requires second { q < length arguments.now }
+    requires third { r < length arguments.now }
+    ensures { Tells (standard.standard_result (meant (M.names meaning.now) (M.parts meaning.now))
+        standing node called (three.listed called (three.value_or (map (spec.read_argument (meant
+        (M.names meaning.now) (M.parts meaning.now)) standing) arguments.now) p) (three.value_or
+        (map (spec.read_argument (meant (M.names meaning.now) (M.parts meaning.now)) standing)
+        arguments.now) q) (three.value_or (map (spec.read_argument (meant (M.names meaning.now)
+        (M.parts meaning.now)) standing) arguments.now) r))) faults.old faults.new result }
+{
+    match called {
+        StandardFunction::Abs => {
+            of_its_type(meaning, standing, faults, Place::Integer, arguments, p)
+        }
+        StandardFunction::Min | StandardFunction::Max => {
+            shared_by_two(meaning, standing, faults, node, arguments, p, q)
+        }
+        StandardFunction::Limit => {
+            shared_by_three(meaning, standing, faults, node, arguments, p, q, r)
+        }
+        StandardFunction::Sel => selected(meaning, standing, faults, node, arguments, p, q, r),
+        StandardFunction::Shl
+        | StandardFunction::Shr
+        | StandardFunction::Rol
+        | StandardFunction::Ror => shifted(meaning, standing, faults, arguments, p, q),
+        StandardFunction::Convert(from, to) => {
+            converted(meaning, standing, faults, from, to, arguments, p)
+        }
+    }
+}
+
+/// Whether an argument holds no faults beside the inputs.
+#[cycle(expression)]
+#[tactic(auto, unfolding(crate::specs::Judge::read_argument, crate::specs::Judge::read))]
+fn is_good_beside<M: Meaning>(
+    meaning: &M,
+    standing: Standing,
+    faults: &mut Faults,
+    fits: bool,
+    argument: &Argument,
+) -> bool
+    ensures { TellsAll (standard.beside (meant (M.names meaning.now) (M.parts meaning.now)) standing
+        fits (spec.read_argument (meant (M.names meaning.now) (M.parts meaning.now)) standing
+        argument.now)) faults.old faults.new result }
+{
+    if is_left_out(&argument.name) {
+        let value = enabled(meaning, standing, faults, argument);
+        still_good(true, value)
+    } else if fits {
+        true
+    } else {
+        let value = argument_value(meaning, standing, faults, argument);
+        still_good(true, value)
+    }
+}
+
+/// Whether the arguments hold no faults beside the inputs.
+#[cycle(expression)]
+#[tactic(auto, using(crate::proofs::Standard::beside_step, crate::proofs::Standard::beside_end))]
+fn are_good_beside<M: Meaning>(
+    meaning: &M,
+    standing: Standing,
+    faults: &mut Faults,
+    fits: bool,
+    arguments: &[Argument],
+) -> bool
+    ensures { TellsAll (standard.all_beside (meant (M.names meaning.now) (M.parts meaning.now))
+        standing fits (map (spec.read_argument (meant (M.names meaning.now) (M.parts meaning.now))
+        standing) arguments.now)) faults.old faults.new result }
+{
+    let mut all = true;
+    for i in 0..arguments.len() {
+        all = all_good(
+            all,
+            is_good_beside(meaning, standing, faults, fits, &arguments[i]),
+        );
+    }
+    all
+}
+
+#[cycle(expression)]
+fn standard_call<M: Meaning>(
+    meaning: &M,
+    standing: Standing,
+    faults: &mut Faults,
+    node: Node,
+    called: StandardFunction,
+    arguments: &[Argument],
+) -> Option<Judged>
+    ensures { Tells (standard.standard_called (meant (M.names meaning.now) (M.parts meaning.now))
+        standing node called (map (spec.read_argument (meant (M.names meaning.now) (M.parts
+        meaning.now)) standing) arguments.now)) faults.old faults.new result }
+{
+    match places_given(called, arguments) {
+        None => {
+            let result = wrong(faults, standing, node, LinkCode::WrongCall);
+            let all = are_good_beside(meaning, standing, faults, false, arguments);
+            where_all(all, result)
+        }
+        Some(places) => {
+            let result = standard_result(
+                meaning,
+                standing,
+                faults,
+                node,
+                called,
+                arguments,
+                places.first,
+                places.second,
+                places.third,
+            );
+            let all = are_good_beside(meaning, standing, faults, true, arguments);
+            where_all(all, result)
+        }
+    }
 }
 
 // ---- calls
@@ -410,7 +730,9 @@ fn call<M: Meaning>(
     name: &Identifier,
     arguments: &[Argument],
 ) -> Option<Judged>
-    ensures { Tells (spec.called (meant (M.names meaning.now) (M.parts meaning.now)) standing node name.now (map (spec.read_argument (meant (M.names meaning.now) (M.parts meaning.now)) standing) arguments.now)) faults.old faults.new result }
+    ensures { Tells (spec.called (meant (M.names meaning.now) (M.parts meaning.now)) standing node
+        name.now (map (spec.read_argument (meant (M.names meaning.now) (M.parts meaning.now))
+        standing) arguments.now)) faults.old faults.new result }
 {
     match meaning.callee(name.name.bytes()) {
         Callee::Unknown => {
@@ -435,6 +757,9 @@ fn call<M: Meaning>(
         }
         Callee::Function(called) => {
             function_call(meaning, standing, faults, node, called, arguments)
+        }
+        Callee::Standard(called) => {
+            standard_call(meaning, standing, faults, node, called, arguments)
         }
     }
 }

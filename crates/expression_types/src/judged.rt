@@ -32,6 +32,8 @@ pub enum Place {
     Any,
     /// An integer of any type.
     Integer,
+    /// A bit string other than BOOL, of any type.
+    Bits,
     /// What converts to this type.
     Elem(Elem),
     /// This very type.

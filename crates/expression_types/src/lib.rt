@@ -12,6 +12,9 @@ mod operators;
 mod parts;
 mod places;
 mod rules;
+mod shared;
+mod standard_calls;
+mod standard_inputs;
 mod types;
 
 pub use expressions::{constant_number, judge, judge_path, placed};

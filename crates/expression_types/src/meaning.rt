@@ -4,6 +4,7 @@ ghost use Rattle.std.specs.Prelude.{◌≡◌};
 
 use iec_tables::elem::Elem;
 use st_tree::Number;
+use standard_names::StandardFunction;
 
 /// The number of a type that isn't elementary: an enumeration, an array, a structure or a block.
 #[derive(Clone, Copy, Debug, PartialEq, Eq)]
@@ -89,6 +90,8 @@ pub enum Callee {
     LeftOut,
     /// A function of the project.
     Function(FunctionNo),
+    /// A function of the standard.
+    Standard(StandardFunction),
 }
 
 /// What an input of a function takes.

@@ -10,7 +10,7 @@ use crate::judged::{ExprType, Judged, Place, Standing};
 use crate::loose::{node_of, own_type, settle};
 use crate::meaning::{Meaning, Names};
 use crate::rules::{without_own, wrong};
-use crate::types::is_integer;
+use crate::types::{is_bit_string, is_integer};
 use iec_tables::elem::{Elem, converts};
 use link_faults::{Faults, LinkCode};
 use st_tree::Expr;
@@ -22,6 +22,11 @@ fn fits<M: Meaning>(meaning: &M, place: Place, ty: ExprType) -> bool
         Place::Any => true,
         Place::Integer => match ty {
             ExprType::Elem(elem) => is_integer(elem),
+            ExprType::Loose => false,
+            ExprType::Other(_) => false,
+        },
+        Place::Bits => match ty {
+            ExprType::Elem(elem) => is_bit_string(elem),
             ExprType::Loose => false,
             ExprType::Other(_) => false,
         },
@@ -76,6 +81,7 @@ fn settled_at<M: Meaning>(
         Place::Integer => {
             settled_by(meaning, standing, faults, own_type(meaning, standing, e), e)
         }
+        Place::Bits => { settled_by(meaning, standing, faults, own_type(meaning, standing, e), e) }
         Place::Shape(_) => {
             settled_by(meaning, standing, faults, own_type(meaning, standing, e), e)
         }

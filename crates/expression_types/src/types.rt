@@ -32,6 +32,16 @@ pub(crate) fn is_bits(t: Elem) -> bool
     }
 }
 
+/// The bit strings, without BOOL.
+pub(crate) fn is_bit_string(t: Elem) -> bool
+    ensures { result ≡ spec.is_bit_string t }
+{
+    match t {
+        Elem::Byte | Elem::Word | Elem::Dword | Elem::Lword => true,
+        _ => false,
+    }
+}
+
 /// Integers and TIME.
 pub(crate) fn is_counted(t: Elem) -> bool
     ensures { result ≡ spec.is_counted t }
@@ -42,7 +52,7 @@ pub(crate) fn is_counted(t: Elem) -> bool
     }
 }
 
-static ORDER: [Elem; 14] = [
+pub(crate) static ORDER: [Elem; 14] = [
     Elem::Sint,
     Elem::Usint,
     Elem::Int,

@@ -3,6 +3,7 @@ use Rattle.expression_types.specs.Meanings.{meant}
 use Rattle.expression_types.specs.Reads.{indices_in, arguments_in, walk}
 use Rattle.expression_types.specs.Judge.{read, read_part, read_argument}
 use Rattle.expression_types.specs.Calls.{all_given}
+use Rattle.expression_types.specs.StandardCalls.{all_beside}
 use Rattle.expression_types.proofs.Loops.{LeftOf, LeftTo}
 use Rattle.expression_types.proofs.expressions.+expression.Given as goal
 
@@ -33,4 +34,11 @@ invariant-are_all_given-loop-i g l =
     let f = (g.M.Meaning.parts l.meaning).function l.function in
     LeftOf (all_given m l.standing f 0 (map (read_argument m l.standing) l.arguments))
     (all_given m l.standing f l.i (map (read_argument m l.standing) (drop l.i l.arguments)))
+    l.initial.faults l.faults l.all
+
+abbrev pub invariant-are_good_beside-loop-i : goal.invariant-are_good_beside-loop-i
+invariant-are_good_beside-loop-i g l =
+    let m = meant (g.M.Names.names l.meaning) (g.M.Meaning.parts l.meaning) in
+    LeftOf (all_beside m l.standing l.fits (map (read_argument m l.standing) l.arguments))
+    (all_beside m l.standing l.fits (map (read_argument m l.standing) (drop l.i l.arguments)))
     l.initial.faults l.faults l.all
