@@ -1,10 +1,19 @@
 -- What is told of a part with others beside it.
-use Rattle.std.proofs.Common.{◌≡◌, ◌∙◌, Bool, true, false, ◌&&◌, List, [], ◌∷◌, ◌++◌, Option, Some, None, cond, ap, sym, subst, refl, true≢false}
+use Rattle.std.proofs.Common.{◌≡◌, ◌∙◌, Bool, true, false, ◌&&◌, List, [], ◌∷◌, ◌++◌, length, Option, Some, None, cond, ap, sym, subst, refl, true≢false}
 use Rattle.link_faults.specs.First.{after}
-use Rattle.link_faults.specs.Checked.{Checked, Good, Bad, Tells}
+use Rattle.link_faults.specs.Checked.{Checked, Good, Bad, Tells, answer}
 use Rattle.link_faults.specs.declared.fault.Faults.{Faults}
 use Rattle.link_faults.proofs.Tells.{after_append}
 use Rattle.expression_types.specs.Lists.{are_good, faults_of, with_all, TellsAll}
+use Rattle.st_tree.specs.declared.declaration.Decl.{Decl}
+use Rattle.declared_types.specs.BareForms.{bare_forms}
+use Rattle.declared_types.specs.declared.forms.Form.{Form}
+use Rattle.declared_types.specs.declared.given.Given.{Given}
+use Rattle.initial_values.specs.declared.written.Written.{Written}
+use Rattle.declaration_rules.specs.Declarations.{Surroundings, variables}
+use Rattle.declaration_rules.specs.steps.Telling.{Gives}
+use Rattle.declared_names.specs.Project.{Known}
+use Rattle.declared_project.specs.Declaring.{external_names, external_made}
 use Rattle.declared_project.specs.steps.Telling.{LeftAll, Continues}
 
 good_have_none : {A : Type 0} (xs : List (Checked A)) → are_good xs ≡ true → faults_of xs ≡ []
@@ -66,4 +75,21 @@ next_external (Bad fs) rest xs old mid new before now l t =
           l.first ∙ after_append mid fs (faults_of rest)
           ∙ ap (λ m. after m (faults_of rest)) (sym t.first);
       all = l.all ∙ and_false before (are_good rest) ∙ ap (λ b. b && are_good rest) (sym t.all);
+    }
+
+-- ---- declarations of them
+
+pub external_gives : (k : Known) (s : Surroundings) (d : Decl) (forms forms' : List Form)
+    (rows rows' : List Written) (old mid new : Faults) (given : Option Given) (all : Bool)
+    → Gives (variables s false false (bare_forms forms) (length rows) d) forms forms' rows rows' old mid given
+    → TellsAll (external_names k s.around (bare_forms forms') given d.names) mid new all
+    → Gives (external_made k s (bare_forms forms) (length rows) d) forms forms' rows rows' old new (cond all given None)
+external_gives k s d forms forms' rows rows' old mid new given all g u =
+    let m = variables s false false (bare_forms forms) (length rows) d in
+    let v = subst (λ a. TellsAll (external_names k s.around (bare_forms forms') a d.names) mid new all) g.told.answer u in
+    let w = subst (λ fs. TellsAll (external_names k s.around fs (answer m.told) d.names) mid new all) g.forms_are v in
+    record {
+      told = with_all_told m.told (external_names k s.around (bare_forms forms ++ m.forms) (answer m.told) d.names) old mid new given all g.told w;
+      forms_are = g.forms_are;
+      rows_are = g.rows_are;
     }

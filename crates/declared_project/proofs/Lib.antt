@@ -1,2 +1,3 @@
 mod Besides
+mod Same
 mod Turns

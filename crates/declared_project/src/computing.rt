@@ -1,6 +1,7 @@
 // The declarations of a project, one after the other.
 
-ghost use Rattle.std.specs.Prelude.{◌≡◌, length, IfOk, OnOk};
+ghost use Rattle.std.specs.Prelude.{◌≡◌, slice_set, IfOk, OnOk};
+ghost use Rattle.declaration_rules.specs.steps.Telling.{Gives};
 ghost use Rattle.link_faults.specs.First.{after};
 ghost use Rattle.declared_names.specs.Tables.{project_in};
 ghost use Rattle.declared_project.specs.Computing as spec;
@@ -16,7 +17,41 @@ use link_faults::Faults;
 use station_ports::outside::NoMemory;
 use std::alloc::Global;
 
+// What the declaration of a number gives.
+fn made_of_number<'t>(
+    alloc: Global,
+    project: &Project<'t>,
+    given: &[Option<Given>],
+    forms: &mut Vec<Form<'t>>,
+    rows: &mut Vec<Written>,
+    faults: &mut Faults,
+    number: usize,
+) -> Result<Option<Given>, NoMemory>
+    ensures { IfOk result (λ it. Gives (spec.made_of_number (project_in project.now)
+        (state given.now forms.old.items rows.old.items) number) forms.old.items forms.new.items
+        rows.old.items rows.new.items faults.old faults.new it) }
+{
+    match project.decls().get(number) {
+        None => Ok(None),
+        Some(row) => {
+            let here = Early {
+                at: At::of(project, given, row, number)?,
+            };
+            declare(alloc, &here, &here.at, forms, rows, faults, row)
+        },
+    }
+}
+
+fn set_given(given: &mut Vec<Option<Given>>, number: usize, made: Option<Given>)
+    ensures { given.new.items ≡ slice_set given.old.items number made }
+{
+    if let Some(slot) = given.get_mut(number) {
+        *slot = made;
+    }
+}
+
 // Computes one declaration, by its number.
+#[tactic(auto, using(crate::proofs::Turns::made_computes))]
 fn compute_number<'t>(
     alloc: Global,
     project: &Project<'t>,
@@ -30,18 +65,8 @@ fn compute_number<'t>(
         (state given.old.items forms.old.items rows.old.items) number
         (state given.new.items forms.new.items rows.new.items) faults.old faults.new) }
 {
-    let made = match project.decls().get(number) {
-        None => None,
-        Some(row) => {
-            let here = Early {
-                at: At::of(project, given, row, number)?,
-            };
-            declare(alloc, &here, &here.at, forms, rows, faults, row)?
-        },
-    };
-    if let Some(slot) = given.get_mut(number) {
-        *slot = made;
-    }
+    let made = made_of_number(alloc, project, given, forms, rows, faults, number)?;
+    set_given(given, number, made);
     Ok(())
 }
 

@@ -28,7 +28,6 @@ fn node_of(name: &TypeName) -> Node
     }
 }
 
-#[tactic(auto, using(crate::proofs::Besides::with_all_told))]
 fn external_variables<'t, D: Declares>(
     alloc: Global,
     outside: &D,

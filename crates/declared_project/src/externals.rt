@@ -123,7 +123,7 @@ fn note_external<O: Outside>(
 }
 
 /// Notes which names of a VAR_EXTERNAL are no global's of its type, and tells whether all are.
-#[tactic(auto, using(crate::proofs::Besides::next_external))]
+
 pub(crate) fn note_externals<O: Outside>(
     outside: &O,
     at: &At<'_, '_>,

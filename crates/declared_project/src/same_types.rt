@@ -123,6 +123,7 @@ fn elements(forms: &[Form<'_>], a: DeclType, b: DeclType) -> Option<(DeclType, D
 }
 
 /// Whether two types are the very same.
+#[tactic(auto, using(crate::proofs::Same::same_more, crate::proofs::Same::same_last))]
 pub(crate) fn is_same_type(forms: &[Form<'_>], a: DeclType, b: DeclType) -> bool
     ensures { result ≡ spec.is_same_type (bare_forms forms.now) a b }
 {
