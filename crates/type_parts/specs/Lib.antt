@@ -1,0 +1,4 @@
+pub mod steps
+pub mod Parts
+pub mod Places
+pub mod Tables
