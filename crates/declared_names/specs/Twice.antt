@@ -3,7 +3,6 @@
 use Rattle.std.specs.Prelude.{ℕ, Bool, if◌then◌else◌, Option, Some, None}
 use Rattle.st_tree.specs.declared.node.Node.{Node}
 use Rattle.project_declarations.specs.Named.{site_of}
-use Rattle.type_parts.specs.Parts.{structures_of}
 use Rattle.type_parts.specs.Places.{number_of_site, has_value_twice}
 use Rattle.type_parts.specs.Places as places
 use Rattle.expression_types.specs.declared.meaning.ShapeNo.{ShapeNo}
@@ -21,4 +20,4 @@ enumeration_here p h node = unless_twice p (number_of_site (enumerations p) (sit
 
 -- the structure that a declaration declares has two fields of one name
 abbrev pub has_field_twice : Project → Here → Bool
-has_field_twice p h = places.has_field_twice (structures_of p.decls) h.number
+has_field_twice p h = places.has_field_twice_at p.decls h.number

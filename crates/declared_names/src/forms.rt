@@ -3,7 +3,7 @@
 ghost use Rattle.std.specs.Prelude.{◌≡◌, ◌++◌, map, IfOk, OnOk};
 ghost use Rattle.project_declarations.specs.Rows.{bare_unit};
 ghost use Rattle.declared_types.specs.BareForms.{bare_form, bare_forms};
-ghost use Rattle.type_parts.specs.Tables.{listed};
+ghost use Rattle.type_parts.specs.Tables.{bare_listed, enumerations_in};
 ghost use Rattle.declared_names.specs.Shapes as spec;
 ghost use Rattle.declared_names.specs.Tables.{project_in};
 
@@ -51,7 +51,7 @@ fn add_units(forms: &mut Vec<Form<'_>>, units: &[UnitRow<'_>]) -> Result<(), NoM
 }
 
 fn listed_form<'t>(row: &Listed<'_>) -> Result<Form<'t>, NoMemory>
-    ensures { IfOk result (λ form. bare_form form ≡ spec.listed_form (listed row.now)) }
+    ensures { IfOk result (λ form. bare_form form ≡ spec.listed_form (bare_listed row.now)) }
 {
     match u32::try_from(row.count()) {
         Ok(count) => Ok(Form::Enumeration(count)),
@@ -61,7 +61,7 @@ fn listed_form<'t>(row: &Listed<'_>) -> Result<Form<'t>, NoMemory>
 
 fn add_enumerations(forms: &mut Vec<Form<'_>>, rows: &[Listed<'_>]) -> Result<(), NoMemory>
     ensures { OnOk result (bare_forms forms.new.items
-        ≡ bare_forms forms.old.items ++ map spec.listed_form (map listed rows.now)) }
+        ≡ bare_forms forms.old.items ++ map spec.listed_form (enumerations_in rows.now)) }
 {
     for row in rows {
         forms.push(listed_form(row)?)?;

@@ -3,7 +3,7 @@
 ghost use Rattle.std.specs.Prelude.{◌≡◌, ◌+◌, ◌<◌, ◌≤◌, ◌^◌, length};
 ghost use Rattle.project_declarations.specs.Scopes as scopes;
 ghost use Rattle.declaration_order.specs.Tables.{decls_in};
-ghost use Rattle.type_parts.specs.Parts.{enumerations_of, structures_of};
+ghost use Rattle.type_parts.specs.Parts.{enumerations_of};
 
 use declaration_order::{DeclComponents, DeclTable};
 use project_declarations::{UnitRow, What};
@@ -23,7 +23,7 @@ pub struct Project<'t> {
     pub(crate) first_listed: u32,
     ghost first_is: { first_listed ≡ 9 + length units.items },
     ghost listed: { enumerations ≡ enumerations_of (decls_in table) },
-    ghost structures: { fields ≡ structures_of (decls_in table) },
+    ghost structures: { fields ≡ decls_in table },
     ghost scopes_fit: { scopes.locals (length units.items) < 2 ^ 32 },
     ghost fits: { first_listed + length (enumerations_of (decls_in table)) ≤ 2 ^ 32 },
 }

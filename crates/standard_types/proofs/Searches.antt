@@ -65,7 +65,8 @@ pub flat_part : {A B : Type 0} (f : A → List B) (b : B) (xs : List A) → Amon
     → (a : A) × Among a xs × Among b (f a)
 flat_part f b [] h = elim h [ ]
 flat_part {A} f b (x ∷ xs) h =
-    elim (among_either b (f x) (flat_map f xs) h) as (λ _. (a : A) × Among a (x ∷ xs) × Among b (f a)) [
+    elim (among_either b (f x) (flat_map f xs) h)
+    as (λ _. (a : A) × Among a (x ∷ xs) × Among b (f a)) [
       | inl e ↦ (x, inl refl, e)
       | inr m ↦ let part = flat_part f b xs m in (part.0, inr part.1, part.2)
     ]
@@ -142,7 +143,8 @@ module _ {V : Type 0} (name_of : V → List ℕ) (s : List ℕ) where
   find_some : (xs : List V) (v : V) → find has xs ≡ Some v → Among v xs × (name_of v ≡ s)
   find_some [] v h = cc
   find_some (x ∷ xs) v h =
-      elim (first_or_later (has x) x (find has xs) v h) as (λ _. Among v (x ∷ xs) × (name_of v ≡ s)) [
+      elim (first_or_later (has x) x (find has xs) v h)
+      as (λ _. Among v (x ∷ xs) × (name_of v ≡ s)) [
         | inl e ↦ (inl e.1, sym (ap name_of e.1) ∙ sym ((bytes_eq-Decides s (name_of x)).0 e.0))
         | inr e ↦ let later = find_some xs v e in (inr later.0, later.1)
       ]
@@ -152,7 +154,8 @@ module _ {V : Type 0} (name_of : V → List ℕ) (s : List ℕ) where
   find_none (x ∷ xs) v h m e =
       let none = neither (has x) x (find has xs) h in
       elim m as (λ _. ⊥) [
-        | inl i ↦ true≢false (sym ((bytes_eq-Decides s (name_of x)).1 (sym (ap name_of i ∙ e))) ∙ none.0)
+        | inl i ↦ true≢false
+            (sym ((bytes_eq-Decides s (name_of x)).1 (sym (ap name_of i ∙ e))) ∙ none.0)
         | inr later ↦ find_none xs v none.1 later e
       ]
 
@@ -165,7 +168,8 @@ module _ {V : Type 0} (name_of : V → List ℕ) (s : List ℕ) where
       → ((v : V) → Among v xs → Is v) → ((v : V) → (r ≡ Some v) ↔ (Is v × (name_of v ≡ s)))
       → r ≡ find has xs
   picked Is xs r all only h =
-      let answer : (o : Option V) → find has xs ≡ o → r ≡ o = λ o. elim o as (λ o. find has xs ≡ o → r ≡ o) [
+      let answer : (o : Option V) → find has xs ≡ o → r ≡ o =
+      λ o. elim o as (λ o. find has xs ≡ o → r ≡ o) [
         | Some v ↦ λ e. let first = find_some xs v e in (h v).1 (only v first.0, first.1)
         | None ↦ λ e. no_other r (λ v i. let is = (h v).0 i in find_none xs v e (all v is.0) is.1)
       ] in

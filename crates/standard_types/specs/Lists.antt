@@ -1,7 +1,7 @@
--- The names of the standard, as lists: elementary types, functions and function blocks of this profile,
--- and what the profile leaves out. Source: IEC 61131-3, third edition, elementary data types, standard
--- functions and standard function blocks. The code searches tables in byte order and cuts the names of
--- conversions at `_TO_`; here each function stands in the lists.
+-- The names of the standard, as lists: elementary types, functions and function blocks of this
+-- profile, and what the profile leaves out. Source: IEC 61131-3, third edition, elementary data
+-- types, standard functions and standard function blocks. The code searches tables in byte order
+-- and cuts the names of conversions at `_TO_`; here each function stands in the lists.
 use Rattle.std.specs.Prelude.{ℕ, if◌then◌else◌, List, [], ◌∷◌, ◌++◌, map, flat_map, codes}
 use Rattle.iec_tables.specs.Conversions.{is_same}
 use Rattle.iec_tables.specs.Types.{name_of}
@@ -17,8 +17,8 @@ use Rattle.standard_names.specs.declared.block.StandardBlock.TheVariants as bloc
 
 abbrev pub types : List Elem
 types =
-    elem.Sint ∷ elem.Usint ∷ elem.Int ∷ elem.Uint ∷ elem.Dint ∷ elem.Udint ∷ elem.Lint ∷ elem.Ulint ∷
-    elem.Byte ∷ elem.Word ∷ elem.Dword ∷ elem.Lword ∷ elem.Bool ∷ elem.Time ∷ []
+    elem.Sint ∷ elem.Usint ∷ elem.Int ∷ elem.Uint ∷ elem.Dint ∷ elem.Udint ∷ elem.Lint ∷
+    elem.Ulint ∷ elem.Byte ∷ elem.Word ∷ elem.Dword ∷ elem.Lword ∷ elem.Bool ∷ elem.Time ∷ []
 
 -- ---- functions and blocks of this profile
 
@@ -39,8 +39,8 @@ functions = plain_functions ++ flat_map conversions_from types
 
 abbrev pub blocks : List StandardBlock
 blocks =
-    block.Sr ∷ block.Rs ∷ block.RTrig ∷ block.FTrig ∷ block.Ctu ∷ block.Ctd ∷ block.Ton ∷ block.Tof ∷
-    block.Tp ∷ []
+    block.Sr ∷ block.Rs ∷ block.RTrig ∷ block.FTrig ∷ block.Ctu ∷ block.Ctd ∷ block.Ton ∷
+    block.Tof ∷ block.Tp ∷ []
 
 abbrev pub function_names : List (List ℕ)
 function_names = map function_name functions

@@ -1,5 +1,5 @@
--- What a name stands for in the standard: plain searches in its lists of names. Letter case does not
--- tell names apart. Source: IEC 61131-3, third edition, identifiers.
+-- What a name stands for in the standard: plain searches in its lists of names. Letter case does
+-- not tell names apart. Source: IEC 61131-3, third edition, identifiers.
 use Rattle.std.specs.Prelude.{ℕ, Bool, ◌||◌, List, Option}
 use Rattle.std.specs.List.{find, list_any}
 use Rattle.std.specs.Str.{bytes_eq}

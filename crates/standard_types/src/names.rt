@@ -5,7 +5,8 @@ ghost use Rattle.standard_types.specs.Names as spec;
 
 use standard_names::{StandardBlock, StandardFunction};
 
-/// The function block of this name, or None where the standard has none, or the profile leaves it out.
+/// The function block of this name, or None where the standard has none, or the profile leaves it
+/// out.
 pub fn block_named(name: &[u8]) -> Option<StandardBlock>
     ensures { result ≡ spec.block_named name.now }
 {
@@ -27,16 +28,16 @@ pub fn is_function_name(name: &[u8]) -> bool
     function_named(name).is_some()
 }
 
-/// Whether a function or a function block of the profile has this name, which no unit and no type of
-/// a project may have.
+/// Whether a function or a function block of the profile has this name, which no unit and no type
+/// of a project may have.
 pub fn is_standard_name(name: &[u8]) -> bool
     ensures { result ≡ spec.is_standard_name name.now }
 {
     standard_names::is_standard(name)
 }
 
-/// Whether the standard has a function of this name that the profile leaves out: one of the list, or
-/// a conversion between two types of the standard at least one of which is left out.
+/// Whether the standard has a function of this name that the profile leaves out: one of the list,
+/// or a conversion between two types of the standard at least one of which is left out.
 pub fn is_left_out_function(name: &[u8]) -> bool
     ensures { result ≡ spec.is_left_out_function name.now }
 {

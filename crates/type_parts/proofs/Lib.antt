@@ -1,2 +1,7 @@
+pub mod Adding
+pub mod Members
+pub mod Positions
+pub mod Finding
+pub mod Marking
 pub mod Numbering
-pub mod Within
+pub mod Reading

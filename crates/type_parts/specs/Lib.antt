@@ -1,3 +1,4 @@
+pub mod steps
 pub mod Parts
 pub mod Places
 pub mod Tables

@@ -1,5 +1,5 @@
--- What declarations list: the enumerations, each with the names of its values, and the names of the fields
--- of structures. Source: the textual grammar of IEC 61131-3, as this profile narrows it.
+-- What declarations list: the enumerations, each with the names of its values, and the names of the
+-- fields of structures. Source: the textual grammar of IEC 61131-3, as this profile narrows it.
 use Rattle.std.specs.Prelude.{ℕ, List, [], ◌∷◌, map, flat_map}
 use Rattle.st_tree.specs.declared.node.Site.{Site}
 use Rattle.st_tree.specs.declared.expression.Identifier.{Identifier}
@@ -8,7 +8,8 @@ use Rattle.st_tree.specs.declared.declaration.Spec.TheOpen.{Spec-F}
 use Rattle.st_tree.specs.declared.file.Shape.{Shape}
 use Rattle.st_tree.specs.declared.file.Fields.{Fields}
 use Rattle.project_declarations.specs.Named.{site_of}
-use Rattle.project_declarations.specs.Declarations.{Declaration, Written, written_type, written_variables, written_result}
+use Rattle.project_declarations.specs.Declarations.{Declaration, Written, written_type}
+use Rattle.project_declarations.specs.Declarations.{written_variables, written_result}
 
 -- an enumeration: where its values are listed, and their names as they are written
 pub record Enumeration : Type 0 where
@@ -66,7 +67,3 @@ written_fields (written_result x) = []
 -- the names of the fields of the structure that a declaration declares, as they are written
 abbrev pub fields_of : Declaration → List (List ℕ)
 fields_of d = written_fields d.source
-
--- those of all declarations
-abbrev pub structures_of : List Declaration → List (List (List ℕ))
-structures_of decls = map fields_of decls

@@ -1,14 +1,14 @@
--- Enumerations by where they are listed, and the places of values and fields by their names. Source: IEC
--- 61131-3, identifiers: letter case does not tell names apart.
-use Rattle.std.specs.Prelude.{ℕ, nat_eq, Bool, true, false, not, List, [], ◌∷◌, slice_get, Option, Some, None}
+-- Enumerations by where they are listed, and the places of values and fields by their names.
+-- Source: IEC 61131-3, identifiers: letter case does not tell names apart.
+use Rattle.std.specs.Prelude.{ℕ, Bool, false, ◌||◌, bytes_eq, List, [], ◌∷◌, slice_get, Option}
+use Rattle.std.specs.Prelude.{Some, None}
 use Rattle.std.specs.List.{list_any, position_from}
-use Rattle.std.specs.Ordering.{nat_cmp, is_eq}
-use Rattle.std.specs.Cmp.Lexicographic.{slice_cmp}
+use Rattle.std.specs.Ordering.{is_eq}
 use Rattle.iec_tables.specs.Words.{raised_all}
 use Rattle.st_tree.specs.declared.node.Site.{Site}
 use Rattle.scope_names.specs.Scopes.{site_cmp}
-use Rattle.project_declarations.specs.Named.{each_from}
-use Rattle.type_parts.specs.Parts.{Enumeration}
+use Rattle.project_declarations.specs.Declarations.{Declaration}
+use Rattle.type_parts.specs.Parts.{Enumeration, fields_of}
 
 -- ---- enumerations by site
 
@@ -22,23 +22,16 @@ number_of_site enumerations site = position_from (is_listed_at site) 0 enumerati
 -- ---- names in a list
 
 abbrev pub is_name : List ℕ → List ℕ → Bool
-is_name name x = is_eq (slice_cmp nat_cmp (raised_all x) (raised_all name))
+is_name name x = bytes_eq (raised_all x) (raised_all name)
 
 -- the place of the first of the names that is this one
 abbrev pub place_in : List (List ℕ) → List ℕ → Option ℕ
 place_in names name = position_from (is_name name) 0 names
 
-abbrev pub is_place : ℕ → Option ℕ → Bool
-is_place place None = false
-is_place place (Some first) = nat_eq first place
-
--- the name at a place of the names stands before it as well
-abbrev pub stands_before : List (List ℕ) → ℕ → List ℕ → Bool
-stands_before names place x = not (is_place place (place_in names x))
-
--- a name stands twice among the names
-abbrev pub has_twice : List (List ℕ) → Bool
-has_twice names = list_any (λ before. before) (each_from (stands_before names) 0 names)
+-- one of the names stands again behind its place
+unfoldable pub has_twice : List (List ℕ) → Bool
+has_twice [] = false
+has_twice (x ∷ xs) = list_any (is_name x) xs || has_twice xs
 
 -- ---- values
 
@@ -55,13 +48,13 @@ has_value_twice enumerations e = has_twice (values_of (slice_get enumerations e)
 
 -- ---- fields
 
-abbrev pub fields_there : Option (List (List ℕ)) → List (List ℕ)
+abbrev pub fields_there : Option Declaration → List (List ℕ)
 fields_there None = []
-fields_there (Some names) = names
+fields_there (Some d) = fields_of d
 
--- the place of a field in the structure of a number
-abbrev pub place_of_field : List (List (List ℕ)) → ℕ → List ℕ → Option ℕ
-place_of_field structures n name = place_in (fields_there (slice_get structures n)) name
+-- the place of a field in the structure that the declaration of a number declares
+abbrev pub place_of_field : List Declaration → ℕ → List ℕ → Option ℕ
+place_of_field decls n name = place_in (fields_there (slice_get decls n)) name
 
-abbrev pub has_field_twice : List (List (List ℕ)) → ℕ → Bool
-has_field_twice structures n = has_twice (fields_there (slice_get structures n))
+abbrev pub has_field_twice_at : List Declaration → ℕ → Bool
+has_field_twice_at decls n = has_twice (fields_there (slice_get decls n))

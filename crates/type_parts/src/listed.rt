@@ -1,27 +1,21 @@
-// Rows of the tables.
+// Enumerations where they are listed.
 
 ghost use Rattle.std.specs.Prelude.{◌≡◌, length};
 
-use st_tree::Site;
+use st_tree::{Identifier, Site};
 
-/// An enumeration: where its values are listed, and the bytes of their names as they are written.
-#[derive(Drop)]
+/// An enumeration: where its values are listed, and the values.
+#[derive(Clone, Copy)]
 pub struct Listed<'t> {
     pub(crate) site: Site,
-    pub(crate) values: Vec<&'t [u8]>,
+    pub(crate) values: &'t [Identifier],
 }
 
 impl<'t> Listed<'t> {
     /// How many values it has.
     pub fn count(&self) -> usize
-        ensures { result ≡ length self.now.values.items }
+        ensures { result ≡ length self.now.values.now }
     {
         self.values.len()
     }
-}
-
-/// The names of the fields of a structure; none where a declaration declares no structure.
-#[derive(Drop)]
-pub struct FieldNames<'t> {
-    pub(crate) names: Vec<&'t [u8]>,
 }
