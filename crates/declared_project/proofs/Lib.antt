@@ -1,3 +1,0 @@
-mod Besides
-mod Same
-mod Turns
