@@ -1,6 +1,6 @@
 -- Types that are the same. Source: this profile: a VAR_EXTERNAL has the very type of its global. Arrays are
 -- the same where their dimensions and their elements' types are.
-use Rattle.std.specs.Prelude.{ℕ, zero, suc, nat_eq, int_le, Bool, true, false, ◌&&◌, if◌then◌else◌, List, [], ◌∷◌, length, slice_get, Option, Some, None}
+use Rattle.std.specs.Prelude.{ℕ, zero, suc, nat_eq, ℤ, int_le, Bool, true, false, ◌&&◌, if◌then◌else◌, List, [], ◌∷◌, length, slice_get, Option, Some, None}
 use Rattle.iec_tables.specs.declared.elem.Elem.{Elem}
 use Rattle.iec_tables.specs.Conversions.{converts_to}
 use Rattle.declared_types.specs.declared.given.Bounds.{Bounds}
@@ -15,20 +15,21 @@ use Rattle.expression_types.specs.declared.meaning.ShapeNo.{ShapeNo}
 abbrev pub same_elem : Elem → Elem → Bool
 same_elem a b = converts_to a b && converts_to b a
 
+abbrev pub same_number : ℤ → ℤ → Bool
+same_number a b = int_le a b && int_le b a
+
 abbrev pub same_bounds : Bounds → Bounds → Bool
 same_bounds a b =
-    same_elem a.elem b.elem
-    && ((int_le a.low b.low && int_le b.low a.low) && (int_le a.high b.high && int_le b.high a.high))
+    same_elem a.elem b.elem && (same_number a.low b.low && same_number a.high b.high)
 
 abbrev pub same_dim : Dim → Dim → Bool
-same_dim a b =
-    (int_le a.low b.low && int_le b.low a.low) && (int_le a.high b.high && int_le b.high a.high)
+same_dim a b = same_number a.low b.low && same_number a.high b.high
 
 abbrev pub same_dims : List Dim → List Dim → Bool
 same_dims [] [] = true
 same_dims [] (b ∷ bs) = false
-same_dims (a ∷ as) [] = false
-same_dims (a ∷ as) (b ∷ bs) = same_dim a b && same_dims as bs
+same_dims (a ∷ more) [] = false
+same_dims (a ∷ more) (b ∷ others) = same_dim a b && same_dims more others
 
 abbrev pub array_there : Option BareForm → Option ArrayForm
 array_there None = None

@@ -15,17 +15,22 @@ fn same_elem(a: Elem, b: Elem) -> bool
     converts(a, b) && converts(b, a)
 }
 
+fn same_number(a: i128, b: i128) -> bool
+    ensures { result ≡ spec.same_number a b }
+{
+    a <= b && b <= a
+}
+
 fn same_bounds(a: Bounds, b: Bounds) -> bool
     ensures { result ≡ spec.same_bounds a b }
 {
-    same_elem(a.elem, b.elem)
-        && ((a.low <= b.low && b.low <= a.low) && (a.high <= b.high && b.high <= a.high))
+    same_elem(a.elem, b.elem) && (same_number(a.low, b.low) && same_number(a.high, b.high))
 }
 
 fn same_dim(a: Dim, b: Dim) -> bool
     ensures { result ≡ spec.same_dim a b }
 {
-    (a.low <= b.low && b.low <= a.low) && (a.high <= b.high && b.high <= a.high)
+    same_number(a.low, b.low) && same_number(a.high, b.high)
 }
 
 fn same_dims(a: &[Dim], b: &[Dim]) -> bool
