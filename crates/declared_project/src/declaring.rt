@@ -97,6 +97,7 @@ fn where_all(all: bool, given: Option<Given>) -> Option<Given>
 }
 
 // Whether all names are those of globals of the type that is written.
+#[tactic(auto, using(crate::proofs::Names::name_step, crate::proofs::Names::names_end))]
 fn external_names<D: Declares>(
     at: &At<'_, '_>,
     outside: &D,

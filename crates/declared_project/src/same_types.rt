@@ -113,6 +113,7 @@ fn same_elements(forms: &[Form<'_>], left: usize, a: ShapeNo, b: ShapeNo) -> boo
 }
 
 /// Whether two types are the same.
+#[tactic(auto, using(crate::proofs::Lengths::whole_depth))]
 pub(crate) fn same_types(forms: &[Form<'_>], a: DeclType, b: DeclType) -> bool
     ensures { result ≡ spec.same_types (bare_forms forms.now) a b }
 {
