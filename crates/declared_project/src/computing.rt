@@ -101,8 +101,8 @@ pub fn compute<'t>(
     ensures { IfOk result (λ c. computed_in c ≡ spec.computed (project_in project.now) order.now) }
 {
     let mut computed = nothing_yet(alloc, project)?;
-    for i in 0..order.len() {
-        turn(alloc, project, &mut computed, order[i])?;
+    for number in order {
+        turn(alloc, project, &mut computed, *number)?;
     }
     Ok(computed)
 }
