@@ -1,5 +1,5 @@
 -- The depth of types in a table.
-use Rattle.std.proofs.Common.{◌≡◌, ◌+◌, ◌∙◌, Bool, List, length, suc, sym, ap, add-one}
+use Rattle.std.proofs.Common.{◌≡◌, ◌+◌, ◌∙◌, List, length, suc, sym, ap, add-one}
 use Rattle.declared_types.specs.BareForms.{bare_forms}
 use Rattle.declared_types.specs.declared.forms.Form.{Form}
 use Rattle.declared_types.specs.declared.given.DeclType.{DeclType}

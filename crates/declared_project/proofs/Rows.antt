@@ -1,6 +1,5 @@
 -- One declaration after the other.
-use Rattle.std.proofs.Common.{◌≡◌, ℕ, suc, ◌+◌, ◌<◌, ◌≤◌, Bool, false, List, ◌∷◌, ◌++◌, length, get_or, drop, map, Option, refl, sym, ap, ◌∙◌, subst, add-one, drop-cons, slice_set}
-use Rattle.std.proofs.lemmas.List.{drop_all}
+use Rattle.std.proofs.Common.{◌≡◌, ℕ, Bool, false, List, ◌++◌, length, map, Option, refl, ap, ◌∙◌, subst, slice_set}
 use Rattle.st_tree.specs.declared.expression.Identifier.{Identifier}
 use Rattle.st_tree.specs.declared.declaration.Decl.{Decl}
 use Rattle.link_faults.specs.Checked.{answer}
@@ -72,23 +71,3 @@ row_computed p n d k h given gs given' forms forms' rows rows' old new r known_i
     let sets : given' ≡ slice_set given n (answer (spec.made p c n d).told) =
     set ∙ ap (slice_set given n) done.told.answer in
     rw (sets, done.forms_are, done.rows_are) refl
-
--- ---- all of them
-
-cut : {E : Type 0} (items : List E) (i : ℕ) (e : E) → i < length items → e ≡ get_or items i e
-    → drop i items ≡ e ∷ drop (i + 1) items
-cut items i e lt is = rw add-one (drop-cons items i e lt ∙ ap (λ y. y ∷ drop (suc i) items) (sym is))
-
-pub turn_step : (p : Project) (c0 c c' : spec.Computed) (order : List ℕ) (i n : ℕ) → i < length order
-    → n ≡ get_or order i n
-    → spec.computed_from p c0 order ≡ spec.computed_from p c (drop i order)
-    → c' ≡ spec.turn p c n
-    → spec.computed_from p c0 order ≡ spec.computed_from p c' (drop (i + 1) order)
-turn_step p c0 c c' order i n lt is inv e =
-    inv ∙ ap (spec.computed_from p c) (cut order i n lt is)
-    ∙ ap (λ x. spec.computed_from p x (drop (i + 1) order)) (sym e)
-
-pub turns_end : (p : Project) (c0 c : spec.Computed) (order : List ℕ) (i : ℕ) → length order ≤ i
-    → spec.computed_from p c0 order ≡ spec.computed_from p c (drop i order)
-    → c ≡ spec.computed_from p c0 order
-turns_end p c0 c order i le inv = sym (inv ∙ ap (spec.computed_from p c) (drop_all i order le))

@@ -1,12 +1,12 @@
 -- What a declaration of a project gives. Source: IEC 61131-3, declarations of variables, of data types, of
 -- functions and of VAR_EXTERNAL; which faults stand, and where, is this profile's.
-use Rattle.std.specs.Prelude.{ℕ, Bool, true, false, not, if◌then◌else◌, List, map, length, ◌++◌, Option, Some, None}
+use Rattle.std.specs.Prelude.{ℕ, false, not, if◌then◌else◌, List, map, ◌++◌, Option, Some, None}
 use Rattle.st_tree.specs.declared.node.Node.{Node}
 use Rattle.st_tree.specs.declared.expression.Identifier.{Identifier}
 use Rattle.st_tree.specs.declared.declaration.Decl.{Decl}
 use Rattle.st_tree.specs.declared.declaration.TypeName.{TypeName}
 use Rattle.link_faults.specs.declared.code.LinkCode.TheVariants as code
-use Rattle.link_faults.specs.Checked.{Checked, Good, Bad, answer, unusable, provided}
+use Rattle.link_faults.specs.Checked.{Checked, answer, unusable, provided}
 use Rattle.expression_types.specs.Lists.{with_all}
 use Rattle.project_declarations.specs.Declarations.{Declaration, Written, written_type, written_variables, written_result}
 use Rattle.project_declarations.specs.declared.rows.Owner.{Owner}
@@ -17,7 +17,7 @@ use Rattle.declared_types.specs.BareForms.{BareForm}
 use Rattle.declared_types.specs.declared.given.Given.{Given}
 use Rattle.declaration_rules.specs.Declarations as gives
 use Rattle.declaration_rules.specs.Declarations.{Surroundings, Made, bare}
-use Rattle.declared_names.specs.Project.{Project, Known, Here, global_number, given_at, is_external_kind, is_own_variable, is_constant_keep}
+use Rattle.declared_names.specs.Project.{Known, global_number, given_at, is_external_kind, is_own_variable, is_constant_keep}
 use Rattle.declared_project.specs.SameTypes.{same_types}
 
 -- ---- names of globals

@@ -1,7 +1,6 @@
 -- What stands around a declaration of a project: what constants are where names have these meanings,
 -- what the names of types stand for, and what leads back to the declaration.
 use Rattle.std.specs.Prelude.{ℕ, nat_le, false, if◌then◌else◌, List, [], Option, Some, None}
-use Rattle.iec_tables.specs.declared.elem.Elem.{Elem}
 use Rattle.st_tree.specs.declared.node.Node.{Node}
 use Rattle.st_tree.specs.declared.node.Site.{Site}
 use Rattle.st_tree.specs.declared.code.Number.{Number}
@@ -9,7 +8,7 @@ use Rattle.st_tree.specs.declared.expression.Expr.{Expr}
 use Rattle.st_lexer.specs.steps.Readings.{read_number}
 use Rattle.link_faults.specs.declared.code.LinkCode.TheVariants as code
 use Rattle.link_faults.specs.Checked.{Checked, wrong}
-use Rattle.expression_types.specs.Meanings.{Meanings, Names, Parts, Function, meant}
+use Rattle.expression_types.specs.Meanings.{Meanings, Parts, Function, meant}
 use Rattle.expression_types.specs.Judge.{constant_number}
 use Rattle.expression_types.specs.declared.judged.Place.{Place}
 use Rattle.expression_types.specs.declared.judged.Place.TheVariants as place
