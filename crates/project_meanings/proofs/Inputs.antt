@@ -10,9 +10,9 @@ use Rattle.declared_names.specs.Project.{Known}
 use Rattle.declared_names.specs.Seen.{given_there}
 use Rattle.project_meanings.specs.Signatures.{DeclaredInput}
 use Rattle.project_meanings.specs.Functions.{input_of, taken_of}
-use Rattle.project_meanings.specs.Tables.{bare_inputs}
+use Rattle.project_meanings.specs.Rows.{bare_inputs}
 use Rattle.project_meanings.specs.steps.Named.{place_named}
-use Rattle.project_meanings.specs.declared.signatures.InputRow.{InputRow}
+use Rattle.project_meanings.specs.declared.rows.InputRow.{InputRow}
 
 pub taken_by_place : (k : Known) (rows : List InputRow) (n : ℕ)
     → inputs.taken_at (map (input_of k) (bare_inputs rows)) n

@@ -59,11 +59,10 @@ declared_so scope name row d =
 so_declared : (scope : ℕ) (name : List ℕ) (row : NameRow What) → has_name scope name row ≡ true
     → Declares scope name row
 so_declared scope name row h =
-    let test = bytes_eq (raised_all name) (raised_name row) in
-    (
+    let test = bytes_eq (raised_all name) (raised_name row) in (
       same_number row.scope scope (first_true (is_in_scope scope row) test h),
       sym ((bytes_eq-Decides (raised_all name) (raised_name row)).0
-      (second_true (is_in_scope scope row) test h)),
+          (second_true (is_in_scope scope row) test h)),
     )
 
 declares_is : (scope : ℕ) (name : List ℕ) (row : NameRow What)

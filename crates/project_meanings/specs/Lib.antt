@@ -6,5 +6,6 @@ pub mod Parts
 pub mod Callees
 pub mod Functions
 pub mod Meaning
+pub mod Rows
 pub mod Tables
 pub mod steps

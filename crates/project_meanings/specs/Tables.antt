@@ -5,21 +5,10 @@ use Rattle.declared_types.specs.BareForms.{bare_forms}
 use Rattle.declared_names.specs.Tables.{known_at, here_of}
 use Rattle.project_meanings.specs.Signatures as signatures
 use Rattle.project_meanings.specs.Whole as spec
-use Rattle.project_meanings.specs.declared.signatures.InputRow.{InputRow}
-use Rattle.project_meanings.specs.declared.signatures.Signature.{Signature}
-use Rattle.project_meanings.specs.declared.signatures.Signatures.{Signatures}
+use Rattle.project_meanings.specs.Rows.{bare_signature}
+use Rattle.project_meanings.specs.declared.table.Signatures.{Signatures}
 use Rattle.project_meanings.specs.declared.whole.Body.{Body}
 use Rattle.project_meanings.specs.declared.whole.Whole.{Whole}
-
-abbrev pub bare_input : InputRow → signatures.DeclaredInput
-bare_input row = record { name = row.name.now; number = row.number }
-
-abbrev pub bare_inputs : List InputRow → List signatures.DeclaredInput
-bare_inputs rows = map bare_input rows
-
-abbrev pub bare_signature : Signature → signatures.Signature
-bare_signature row =
-    record { scope = row.scope; inputs = bare_inputs row.inputs; result = row.result }
 
 abbrev pub signatures_in : Signatures → List signatures.Signature
 signatures_in s = map bare_signature s.rows.items

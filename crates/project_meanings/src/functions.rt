@@ -6,13 +6,14 @@ ghost use Rattle.iec_tables.specs.Words.{raised_all};
 ghost use Rattle.expression_types.specs.Inputs as inputs;
 ghost use Rattle.declared_names.specs.Tables.{known_at, project_in};
 ghost use Rattle.project_meanings.specs.Functions as spec;
+ghost use Rattle.project_meanings.specs.Rows.{bare_inputs, bare_signature};
 ghost use Rattle.project_meanings.specs.Signatures as signatures;
 ghost use Rattle.project_meanings.specs.steps.Named.{is_found, place_named};
-ghost use Rattle.project_meanings.specs.Tables.{bare_inputs, bare_signature, whole_in};
+ghost use Rattle.project_meanings.specs.Tables.{whole_in};
 
 use crate::addresses::given_there;
 use crate::letters::is_one_name;
-use crate::signatures::{InputRow, Signature};
+use crate::rows::{InputRow, Signature};
 use crate::whole::Whole;
 use declared_names::{At, Project, found, value_type};
 use declared_types::{DeclType, Given};
@@ -124,11 +125,7 @@ pub(crate) fn input(whole: &Whole<'_, '_>, function: FunctionNo, place: usize) -
 
 /// The place of the input with this name.
 #[tactic(auto, using(crate::proofs::Inputs::places_agree))]
-pub(crate) fn input_named(
-    whole: &Whole<'_, '_>,
-    function: FunctionNo,
-    name: &[u8],
-) -> Option<usize>
+pub(crate) fn input_named(whole: &Whole<'_, '_>, function: FunctionNo, name: &[u8]) -> Option<usize>
     ensures { result ≡ inputs.place_of
         (spec.function_there (whole_in whole.now).known function).inputs (raised_all name.now) }
 {

@@ -9,8 +9,12 @@ mod letters;
 mod meaning;
 mod names;
 mod parts;
+mod rows;
 mod signatures;
+mod standing;
+mod table;
 mod whole;
 
-pub use signatures::{InputRow, Signature, Signatures};
+pub use rows::{InputRow, Signature};
+pub use table::Signatures;
 pub use whole::{Body, Whole};

@@ -1,4 +1,4 @@
-// The signatures of a project's units, as a table.
+// Making the table of signatures.
 
 ghost use Rattle.std.specs.Prelude.{◌≡◌, [], ◌++◌, map, flat_map, IfOk, OnOk};
 ghost use Rattle.std.specs.Option.{option_map};
@@ -6,40 +6,18 @@ ghost use Rattle.project_declarations.specs.Scopes as scopes;
 ghost use Rattle.project_declarations.specs.Named.{node_of_type_name};
 ghost use Rattle.project_declarations.specs.Rows.{bare_unit};
 ghost use Rattle.declared_names.specs.Tables.{project_in};
+ghost use Rattle.project_meanings.specs.Rows.{bare_inputs, bare_signature};
 ghost use Rattle.project_meanings.specs.Signatures as spec;
-ghost use Rattle.project_meanings.specs.Tables.{bare_input, bare_inputs, bare_signature};
 ghost use Rattle.project_meanings.specs.Tables.{signatures_in};
 
+use crate::rows::{InputRow, Signature};
+use crate::table::Signatures;
 use declared_names::{Project, number_there};
 use project_declarations::{UnitRow, locals};
 use st_tree::{Decl, Identifier, Node, Section, SectionKind, Site, TypeName, UnitKind};
 use station_ports::outside::NoMemory;
 use std::alloc::Global;
 use tree_items::Items;
-
-/// An input of a unit: its name as it is written, and the number of its declaration.
-#[derive(Clone, Copy)]
-pub struct InputRow<'t> {
-    pub name: &'t [u8],
-    pub number: Option<usize>,
-}
-
-/// What calls see of a unit: the scope of its variables, its inputs in the order of the text, and the
-/// number of the declaration of its result.
-#[derive(Drop)]
-pub struct Signature<'t> {
-    pub scope: u32,
-    pub inputs: Items<InputRow<'t>>,
-    pub result: Option<usize>,
-}
-
-/// The signatures of a project's units, by their numbers.
-#[derive(Drop)]
-pub struct Signatures<'a, 't> {
-    pub(crate) project: &'a Project<'t>,
-    pub(crate) rows: Vec<Signature<'t>>,
-    ghost are_of: { map bare_signature rows.items ≡ spec.signatures_of (project_in project.now) },
-}
 
 fn is_input(kind: SectionKind) -> bool
     ensures { result ≡ spec.is_input kind }
@@ -89,7 +67,11 @@ fn add_decls<'t>(
         ++ flat_map (spec.decl_inputs (project_in project.now) file) decls.now) }
 {
     for decl in decls {
-        add_names(rows, declared_number(project, file, decl.node), decl.names.as_slice())?;
+        add_names(
+            rows,
+            declared_number(project, file, decl.node),
+            decl.names.as_slice(),
+        )?;
     }
     Ok(())
 }

@@ -1,6 +1,6 @@
 use Rattle.std.proofs.Common.{◌≡◌, drop}
 use Rattle.expression_types.specs.steps.Three.{further}
-use Rattle.project_meanings.specs.Tables.{bare_inputs}
+use Rattle.project_meanings.specs.Rows.{bare_inputs}
 use Rattle.project_meanings.specs.steps.Named.{place_named}
 use Rattle.project_meanings.proofs.functions.place_of.Given as goal
 

@@ -1,7 +1,7 @@
 use Rattle.std.proofs.Common.{◌≡◌, ◌++◌, take, flat_map}
 use Rattle.declared_names.specs.Tables.{project_in}
 use Rattle.project_meanings.specs.Signatures as spec
-use Rattle.project_meanings.specs.Tables.{bare_inputs}
+use Rattle.project_meanings.specs.Rows.{bare_inputs}
 use Rattle.project_meanings.proofs.signatures.add_decls.Given as goal
 
 abbrev pub invariant-loop-decl : goal.invariant-loop-decl

@@ -1,6 +1,6 @@
 use Rattle.std.proofs.Common.{◌≡◌, ◌++◌, map, take}
 use Rattle.project_meanings.specs.Signatures as spec
-use Rattle.project_meanings.specs.Tables.{bare_inputs}
+use Rattle.project_meanings.specs.Rows.{bare_inputs}
 use Rattle.project_meanings.proofs.signatures.add_names.Given as goal
 
 abbrev pub invariant-loop-x : goal.invariant-loop-x

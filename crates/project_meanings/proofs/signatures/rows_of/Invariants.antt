@@ -2,7 +2,7 @@ use Rattle.std.proofs.Common.{◌≡◌, ◌++◌, map, drop}
 use Rattle.project_declarations.specs.Rows.{bare_unit}
 use Rattle.declared_names.specs.Tables.{project_in}
 use Rattle.project_meanings.specs.Signatures as spec
-use Rattle.project_meanings.specs.Tables.{bare_signature}
+use Rattle.project_meanings.specs.Rows.{bare_signature}
 use Rattle.project_meanings.proofs.signatures.rows_of.Given as goal
 
 abbrev pub invariant-loop-number : goal.invariant-loop-number
