@@ -1,11 +1,13 @@
 -- Inputs of functions by their places and by their names.
 use Rattle.std.proofs.Common.{◌≡◌, ◌∙◌, ℕ, zero, suc, ◌+◌, ◌<◌, ◌≤◌, true, false, List, [], ◌∷◌, length, get_or, drop, map, cond, Option, Some, None, refl, sym, ap, arith, add-one, drop-cons}
-use Rattle.std.specs.Prelude.{bytes_eq, slice_get}
+use Rattle.std.specs.Prelude.{bytes_eq}
 use Rattle.std.specs.Option.{option_map}
 use Rattle.std.proofs.lemmas.List.{drop_all}
 use Rattle.iec_tables.specs.Words.{raised_all}
 use Rattle.expression_types.specs.Inputs as inputs
 use Rattle.expression_types.specs.steps.Three.{further}
+use Rattle.expression_types.specs.declared.meaning.Taken.{Taken}
+use Rattle.declared_types.specs.declared.given.Given.{Given}
 use Rattle.declared_names.specs.Project.{Known}
 use Rattle.declared_names.specs.Seen.{given_there}
 use Rattle.project_meanings.specs.Signatures.{DeclaredInput}
@@ -14,12 +16,26 @@ use Rattle.project_meanings.specs.Rows.{bare_inputs}
 use Rattle.project_meanings.specs.steps.Named.{place_named}
 use Rattle.project_meanings.specs.declared.rows.InputRow.{InputRow}
 
-pub taken_by_place : (k : Known) (rows : List InputRow) (n : ℕ)
-    → inputs.taken_at (map (input_of k) (bare_inputs rows)) n
-    ≡ option_map (λ (row : InputRow). taken_of (given_there k row.number)) (slice_get rows n)
-taken_by_place k [] n = refl
-taken_by_place k (x ∷ xs) zero = refl
-taken_by_place k (x ∷ xs) (suc n) = taken_by_place k xs n
+taken_by_place : (k : Known) (rows : List InputRow) (n : ℕ) (row : InputRow) → n < length rows
+    → row ≡ get_or rows n row
+    → Some (taken_of (given_there k row.number))
+    ≡ inputs.taken_at (map (input_of k) (bare_inputs rows)) n
+taken_by_place k [] n row l is = absurd (omega arith)
+taken_by_place k (x ∷ xs) zero row l is =
+    ap (λ (r : InputRow). Some (taken_of (given_there k r.number))) is
+taken_by_place k (x ∷ xs) (suc n) row l is = taken_by_place k xs n row (omega arith) is
+
+pub taken_there : (k : Known) (rows : List InputRow) (n : ℕ) (row : InputRow) (g : Option Given)
+    (t : Taken) → n < length rows → row ≡ get_or rows n row → g ≡ given_there k row.number
+    → t ≡ taken_of g → Some t ≡ inputs.taken_at (map (input_of k) (bare_inputs rows)) n
+taken_there k rows n row g t l is given takes =
+    ap Some (takes ∙ ap taken_of given) ∙ taken_by_place k rows n row l is
+
+pub taken_past : (k : Known) (rows : List InputRow) (n : ℕ) → length rows ≤ n
+    → None ≡ inputs.taken_at (map (input_of k) (bare_inputs rows)) n
+taken_past k [] n l = refl
+taken_past k (x ∷ xs) zero l = absurd (omega arith)
+taken_past k (x ∷ xs) (suc n) l = taken_past k xs n (omega arith)
 
 pub places_agree : (k : Known) (xs : List DeclaredInput) (name : List ℕ)
     → inputs.place_of (map (input_of k) xs) (raised_all name) ≡ place_named xs name

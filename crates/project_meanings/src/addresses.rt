@@ -42,7 +42,7 @@ fn declared_at(at: &At<'_, '_>, site: Site) -> Seen
 }
 
 fn by_size(value: Option<AddressValue<'_>>) -> Seen
-    ensures { result ≡ spec.by_size (address_parts value) }
+    ensures { result ≡ spec.by_size (address_parts value.entry) }
 {
     match value {
         None => Seen::Faulty,

@@ -41,14 +41,15 @@ fn taken_of(given: Option<Given>) -> Taken
     }
 }
 
-#[tactic(auto, using(crate::proofs::Inputs::taken_by_place))]
+#[tactic(auto, using(crate::proofs::Inputs::taken_there, crate::proofs::Inputs::taken_past))]
 fn input_at(at: &At<'_, '_>, rows: &[InputRow<'_>], place: usize) -> Option<Taken>
     ensures { result ≡ inputs.taken_at (map (spec.input_of (known_at at.now)) (bare_inputs rows.now))
         place }
 {
-    match rows.get(place) {
-        None => None,
-        Some(row) => Some(taken_of(given_there(at, row.number))),
+    if place < rows.len() {
+        Some(taken_of(given_there(at, rows[place].number)))
+    } else {
+        None
     }
 }
 
@@ -75,7 +76,6 @@ fn is_found(what: Option<What>) -> bool
 }
 
 /// Whether a scope declares a name.
-#[tactic(auto, using(crate::proofs::Scopes::declared_by_found))]
 fn is_declared(project: &Project<'_>, scope: u32, name: &[u8]) -> bool
     ensures { result ≡ inputs.is_among (spec.names_of_scope (project_in project.now) scope)
         (raised_all name.now) }

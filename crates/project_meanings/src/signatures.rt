@@ -1,6 +1,6 @@
 // Making the table of signatures.
 
-ghost use Rattle.std.specs.Prelude.{◌≡◌, [], ◌++◌, map, flat_map, IfOk, OnOk};
+ghost use Rattle.std.specs.Prelude.{◌≡◌, [], ◌++◌, map, flat_map, slice_get, IfOk, OnOk};
 ghost use Rattle.std.specs.Option.{option_map};
 ghost use Rattle.project_declarations.specs.Scopes as scopes;
 ghost use Rattle.project_declarations.specs.Named.{node_of_type_name};
@@ -190,8 +190,8 @@ impl<'a, 't> Signatures<'a, 't> {
 
     /// The signature of the unit of a number.
     pub fn at(&self, number: usize) -> Option<&Signature<'t>>
-        ensures { spec.signature_at (project_in self.now.project.now) number
-            ≡ option_map (λ row. bare_signature row.now) result }
+        ensures { option_map (λ row. bare_signature row.now) result
+            ≡ slice_get (signatures_in self.now) number }
     {
         self.rows.get(number)
     }

@@ -1,8 +1,10 @@
 // All that is known where an expression stands once all declarations are known.
 
-ghost use Rattle.std.specs.Prelude.{◌≡◌};
+ghost use Rattle.std.specs.Prelude.{◌≡◌, map};
 ghost use Rattle.project_declarations.specs.Scopes as scopes;
-ghost use Rattle.declared_names.specs.Tables.{known_at, project_in};
+ghost use Rattle.declared_names.specs.Tables.{known_at};
+ghost use Rattle.project_meanings.specs.Rows.{bare_signature};
+ghost use Rattle.project_meanings.specs.Signatures.{signatures_of};
 
 use crate::table::Signatures;
 use declared_names::At;
@@ -27,5 +29,6 @@ pub struct Whole<'a, 't> {
     pub(crate) forms: &'a [Form<'t>],
     pub(crate) signatures: &'a Signatures<'a, 't>,
     pub(crate) body: Option<Body>,
-    ghost one_project: { (known_at at).project ≡ project_in signatures.now.project.now },
+    ghost are_of: { map bare_signature signatures.now.rows.items
+        ≡ signatures_of (known_at at).project },
 }
