@@ -16,20 +16,18 @@ use Rattle.project_meanings.specs.Rows.{bare_inputs}
 use Rattle.project_meanings.specs.steps.Named.{place_named}
 use Rattle.project_meanings.specs.declared.rows.InputRow.{InputRow}
 
-taken_by_place : (k : Known) (rows : List InputRow) (n : ℕ) (row : InputRow) → n < length rows
-    → row ≡ get_or rows n row
-    → Some (taken_of (given_there k row.number))
+taken_by_place : (k : Known) (rows : List InputRow) (n : ℕ) (d : InputRow) → n < length rows
+    → Some (taken_of (given_there k (get_or rows n d).number))
     ≡ inputs.taken_at (map (input_of k) (bare_inputs rows)) n
-taken_by_place k [] n row l is = absurd (omega arith)
-taken_by_place k (x ∷ xs) zero row l is =
-    ap (λ (r : InputRow). Some (taken_of (given_there k r.number))) is
-taken_by_place k (x ∷ xs) (suc n) row l is = taken_by_place k xs n row (omega arith) is
+taken_by_place k [] n d l = absurd (omega arith)
+taken_by_place k (x ∷ xs) zero d l = refl
+taken_by_place k (x ∷ xs) (suc n) d l = taken_by_place k xs n d (omega arith)
 
-pub taken_there : (k : Known) (rows : List InputRow) (n : ℕ) (row : InputRow) (g : Option Given)
-    (t : Taken) → n < length rows → row ≡ get_or rows n row → g ≡ given_there k row.number
-    → t ≡ taken_of g → Some t ≡ inputs.taken_at (map (input_of k) (bare_inputs rows)) n
-taken_there k rows n row g t l is given takes =
-    ap Some (takes ∙ ap taken_of given) ∙ taken_by_place k rows n row l is
+pub taken_there : (k : Known) (rows : List InputRow) (n : ℕ) (d : InputRow) (g : Option Given)
+    (t : Taken) → n < length rows → g ≡ given_there k (get_or rows n d).number → t ≡ taken_of g
+    → Some t ≡ inputs.taken_at (map (input_of k) (bare_inputs rows)) n
+taken_there k rows n d g t l given takes =
+    ap Some (takes ∙ ap taken_of given) ∙ taken_by_place k rows n d l
 
 pub taken_past : (k : Known) (rows : List InputRow) (n : ℕ) → length rows ≤ n
     → None ≡ inputs.taken_at (map (input_of k) (bare_inputs rows)) n

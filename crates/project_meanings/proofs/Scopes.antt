@@ -1,5 +1,5 @@
 -- The names that a scope declares, and the names that are found in it.
-use Rattle.std.proofs.Common.{◌≡◌, ℕ, Bool, true, false, List, [], ◌∷◌, map, cond, Option, Some, None, refl, sym, ap, arith}
+use Rattle.std.proofs.Common.{◌≡◌, ℕ, Bool, true, false, List, [], ◌∷◌, map, cond, Option, Some, refl, sym, ap, arith}
 use Rattle.std.specs.Prelude.{◌&&◌, bytes_eq, nat_eq}
 use Rattle.std.specs.List.{filter, find, list_any}
 use Rattle.std.specs.Option.{option_map}

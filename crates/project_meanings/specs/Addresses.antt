@@ -1,7 +1,7 @@
 -- What an address stands for. Source: IEC 61131-3, directly represented variables, as this profile
 -- narrows them: an address is the variable that is declared there, else one of its size; functions name
 -- none.
-use Rattle.std.specs.Prelude.{ℕ, Bool, true, false, if◌then◌else◌, List, Option, Some, None}
+use Rattle.std.specs.Prelude.{ℕ, if◌then◌else◌, List, Option, Some, None}
 use Rattle.st_tree.specs.declared.node.Site.{Site}
 use Rattle.st_lexer.specs.Values.{elem_of}
 use Rattle.st_lexer.specs.steps.Readings.{AddressParts, read_address}

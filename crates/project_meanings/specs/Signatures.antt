@@ -1,6 +1,6 @@
 -- What calls see of the units of a project. Source: IEC 61131-3, declarations of functions and function
 -- blocks: inputs stand in VAR_INPUT sections, and the result of a function is a variable of its name.
-use Rattle.std.specs.Prelude.{ℕ, Bool, true, false, if◌then◌else◌, List, [], ◌∷◌, map, flat_map, slice_get, Option, Some, None}
+use Rattle.std.specs.Prelude.{ℕ, Bool, true, false, if◌then◌else◌, List, [], map, flat_map, slice_get, Option, Some, None}
 use Rattle.st_tree.specs.declared.node.Node.{Node}
 use Rattle.st_tree.specs.declared.expression.Identifier.{Identifier}
 use Rattle.st_tree.specs.declared.declaration.Decl.{Decl}

@@ -41,7 +41,7 @@ fn taken_of(given: Option<Given>) -> Taken
     }
 }
 
-#[tactic(auto, using(crate::proofs::Inputs::taken_there, crate::proofs::Inputs::taken_past))]
+#[tactic(auto, using(crate::proofs::Inputs::taken_past))]
 fn input_at(at: &At<'_, '_>, rows: &[InputRow<'_>], place: usize) -> Option<Taken>
     ensures { result ≡ inputs.taken_at (map (spec.input_of (known_at at.now)) (bare_inputs rows.now))
         place }
