@@ -17,4 +17,4 @@ mod whole;
 
 pub use rows::{InputRow, Signature};
 pub use table::Signatures;
-pub use whole::{Body, Whole};
+pub use whole::Whole;

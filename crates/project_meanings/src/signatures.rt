@@ -171,7 +171,8 @@ fn rows_of<'t>(
 
 impl<'a, 't> Signatures<'a, 't> {
     /// The signatures of a project's units. Takes time in the order of their declarations, with a search
-    /// by halves for each. NoMemory where there is no memory for them, or no room for the numbers of scopes.
+    /// by halves for each. NoMemory where there is no memory for them, or no room for the numbers of
+    /// scopes.
     pub fn of(alloc: Global, project: &'a Project<'t>) -> Result<Signatures<'a, 't>, NoMemory>
         ensures rows { IfOk result (λ it. signatures_in it
             ≡ spec.signatures_of (project_in project.now)) }
