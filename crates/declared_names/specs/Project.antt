@@ -53,6 +53,14 @@ here n d = record { number = n; file = d.file; owner = d.owner }
 abbrev pub outside : Project → Here
 outside p = record { number = length p.decls; file = 0; owner = owner.Global None }
 
+-- what belongs to the body of a unit sees what its variables see
+abbrev pub body_owner : UnitNo → Owner
+body_owner unit = owner.Local (record { unit = unit; kind = section.Var; keep = None })
+
+-- in the body of a unit, in no declaration
+abbrev pub in_unit : Project → UnitNo → Placed → Here
+in_unit p unit x = record { number = length p.decls; file = x.file; owner = body_owner unit }
+
 -- ---- names
 
 -- the scope of the unit's own variables

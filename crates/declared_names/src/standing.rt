@@ -1,14 +1,15 @@
 // Where declarations stand.
 
 ghost use Rattle.std.specs.Prelude.{◌≡◌, IfOk};
-ghost use Rattle.project_declarations.specs.Rows.{bare_decl};
+ghost use Rattle.project_declarations.specs.Rows.{bare_decl, bare_unit};
 ghost use Rattle.declared_names.specs.Project as spec;
 ghost use Rattle.declared_names.specs.Tables.{known_at, here_of, project_in};
 
 use crate::at::At;
 use crate::project::Project;
 use declared_types::Given;
-use project_declarations::{DeclRow, Owner, locals};
+use project_declarations::{DeclRow, Local, Owner, UnitNo, UnitRow, locals};
+use st_tree::SectionKind;
 use station_ports::outside::NoMemory;
 
 fn own_scope(owner: Owner) -> Result<Option<u32>, NoMemory>
@@ -59,6 +60,35 @@ impl<'a, 't> At<'a, 't> {
             owner: Owner::Global(None),
             own: None,
         }
+    }
+
+    /// Where expressions of a unit's body stand: in no declaration, and with the unit's own variables.
+    /// NoMemory where scopes have no room for the unit.
+    pub fn in_unit(
+        project: &'a Project<'t>,
+        given: &'a [Option<Given>],
+        unit: UnitNo,
+        row: &UnitRow<'t>,
+    ) -> Result<At<'a, 't>, NoMemory>
+        ensures known { IfOk result (λ at. known_at at ≡
+            spec.known (project_in project.now) given.now) }
+        ensures here { IfOk result (λ at. here_of at ≡
+            spec.in_unit (project_in project.now) unit (bare_unit row.now)) }
+    {
+        let owner = Owner::Local(Local {
+            unit,
+            kind: SectionKind::Var,
+            keep: None,
+        });
+        let own = own_scope(owner)?;
+        Ok(At {
+            project,
+            given,
+            number: project.table.rows().len(),
+            file: row.file,
+            owner,
+            own,
+        })
     }
 
     /// The place of the declaration's file among the project's files.

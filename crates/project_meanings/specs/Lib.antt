@@ -1,0 +1,11 @@
+pub mod Signatures
+pub mod Whole
+pub mod Names
+pub mod Addresses
+pub mod Parts
+pub mod Callees
+pub mod Functions
+pub mod Meaning
+pub mod Rows
+pub mod Tables
+pub mod steps
