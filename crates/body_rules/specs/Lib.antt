@@ -1,2 +1,5 @@
 pub mod steps
 pub mod Loops
+pub mod Surroundings
+pub mod Told
+pub mod Targets

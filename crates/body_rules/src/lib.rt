@@ -2,3 +2,8 @@
 #![tactic(auto)]
 
 mod loops;
+mod noted;
+mod outside;
+mod targets;
+
+pub use outside::{BlockPart, Bodies, Called, CounterVariable, ExactType, Scalar};

@@ -1,0 +1,35 @@
+-- What is told of parts that stand together: the lemmas of faults, under names of this crate.
+use Rattle.std.proofs.Common.{◌≡◌, List, [], ◌∷◌, ◌++◌, Option, Some, None, sym, ap, ◌∙◌, subst}
+use Rattle.std.proofs.lemmas.Option.{none-some, same_Some}
+use Rattle.link_faults.specs.First.{after}
+use Rattle.link_faults.specs.Checked.{Checked, Good, Bad, bind, Tells}
+use Rattle.link_faults.specs.declared.fault.LinkFault.{LinkFault}
+use Rattle.link_faults.specs.declared.fault.Faults.{Faults}
+use Rattle.link_faults.proofs.Tells as told
+use Rattle.body_rules.specs.Told.{followed}
+
+pub after_append : (old : Faults) (fs gs : List LinkFault)
+    → after old (fs ++ gs) ≡ after (after old fs) gs
+after_append = told.after_append
+
+pub bind_some : {A B : Type 0} (x : Checked A) (k : A → Checked B) (old mid new : Faults) (a : A)
+    (r : Option B) → Tells x old mid (Some a) → Tells (k a) mid new r → Tells (bind x k) old new r
+bind_some = told.bind_some
+
+pub bind_none : {A B : Type 0} (x : Checked A) (k : A → Checked B) (old new : Faults)
+    → Tells x old new None → Tells (bind x k) old new None
+bind_none = told.bind_none
+
+pub followed_some : {A : Type 0} (x : Checked A) (rule : A → List LinkFault) (others : List LinkFault)
+    (old mid new : Faults) (a : A) → Tells x old mid (Some a) → new ≡ after mid (rule a)
+    → new ≡ after old (followed x rule others)
+followed_some (Good b) rule others old mid new a t is =
+    is ∙ ap (λ m. after m (rule a)) t.first ∙ ap (λ c. after old (rule c)) (same_Some a b t.answer)
+followed_some (Bad fs) rule others old mid new a t is = absurd (none-some a (sym t.answer))
+
+pub followed_none : {A : Type 0} (x : Checked A) (rule : A → List LinkFault) (others : List LinkFault)
+    (old mid new : Faults) → Tells x old mid None → new ≡ after mid others
+    → new ≡ after old (followed x rule others)
+followed_none (Good b) rule others old mid new t is = absurd (none-some b t.answer)
+followed_none (Bad fs) rule others old mid new t is =
+    is ∙ ap (λ m. after m others) t.first ∙ sym (told.after_append old fs others)
