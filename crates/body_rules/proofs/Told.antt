@@ -27,9 +27,16 @@ followed_some (Good b) rule others old mid new a t is =
     is ∙ ap (λ m. after m (rule a)) t.first ∙ ap (λ c. after old (rule c)) (same_Some a b t.answer)
 followed_some (Bad fs) rule others old mid new a t is = absurd (none-some a (sym t.answer))
 
-pub followed_none : {A : Type 0} (x : Checked A) (rule : A → List LinkFault) (others : List LinkFault)
+bad_others : {A : Type 0} (x : Checked A) (rule : A → List LinkFault) (others : List LinkFault)
     (old mid new : Faults) → Tells x old mid None → new ≡ after mid others
     → new ≡ after old (followed x rule others)
-followed_none (Good b) rule others old mid new t is = absurd (none-some b t.answer)
-followed_none (Bad fs) rule others old mid new t is =
+bad_others (Good b) rule others old mid new t is = absurd (none-some b t.answer)
+bad_others (Bad fs) rule others old mid new t is =
     is ∙ ap (λ m. after m others) t.first ∙ sym (told.after_append old fs others)
+
+pub followed_none : {A : Type 0} (x : Checked A) (rule : A → List LinkFault) (others : List LinkFault)
+    (old mid new : Faults) (r : Option A) → Tells x old mid r → r ≡ None → new ≡ after mid others
+    → new ≡ after old (followed x rule others)
+followed_none {A = A} x rule others old mid new r t none is =
+    let P : Option A → Type 0 = λ s. Tells x old mid s in
+    bad_others x rule others old mid new (subst P none t) is
