@@ -3,3 +3,4 @@ pub mod Loops
 pub mod Surroundings
 pub mod Told
 pub mod Targets
+pub mod Labels

@@ -1,9 +1,11 @@
 //! The rules of linking for bodies of units: statements, calls of instances, and charts.
 #![tactic(auto)]
 
+mod labels;
 mod loops;
 mod noted;
 mod outside;
+mod rules;
 mod targets;
 
 pub use outside::{BlockPart, Bodies, Called, CounterVariable, ExactType, Scalar};
