@@ -2,7 +2,7 @@
 use Rattle.std.proofs.Common.{◌≡◌, List, [], ◌∷◌, ◌++◌, Option, Some, None, sym, ap, ◌∙◌, subst}
 use Rattle.std.proofs.lemmas.Option.{none-some, same_Some}
 use Rattle.link_faults.specs.First.{after}
-use Rattle.link_faults.specs.Checked.{Checked, Good, Bad, bind, both, Tells}
+use Rattle.link_faults.specs.Checked.{Checked, Good, Bad, faults, answer, bind, both, Tells}
 use Rattle.link_faults.specs.declared.fault.LinkFault.{LinkFault}
 use Rattle.link_faults.specs.declared.fault.Faults.{Faults}
 use Rattle.link_faults.proofs.Tells as told
@@ -40,6 +40,14 @@ both_of {B = B} x y k old mid mid' new (Some a) None r t u v =
 both_of x y k old mid mid' new None b r t u v =
     let here : Tells (both x y k) old mid' None = told.both_left x y k old mid mid' b t u in
     record { first = v.first ∙ here.first; answer = v.answer ∙ here.answer }
+
+-- what depends on a part's answer, behind the part's own faults
+pub answered : {A : Type 0} (x : Checked A) (rest : Option A → List LinkFault) (old mid new : Faults)
+    (a : Option A) → Tells x old mid a → new ≡ after mid (rest a)
+    → new ≡ after old (faults x ++ rest (answer x))
+answered x rest old mid new a t is =
+    is ∙ ap (λ m. after m (rest a)) t.first ∙ ap (λ b. after (after old (faults x)) (rest b)) t.answer
+    ∙ sym (told.after_append old (faults x) (rest (answer x)))
 
 pub followed_some : {A : Type 0} (x : Checked A) (rule : A → List LinkFault) (others : List LinkFault)
     (old mid new : Faults) (a : A) → Tells x old mid (Some a) → new ≡ after mid (rule a)

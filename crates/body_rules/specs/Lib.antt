@@ -4,3 +4,5 @@ pub mod Surroundings
 pub mod Told
 pub mod Targets
 pub mod Labels
+pub mod Counters
+pub mod Calls

@@ -1,6 +1,8 @@
 //! The rules of linking for bodies of units: statements, calls of instances, and charts.
 #![tactic(auto)]
 
+mod calls;
+mod counters;
 mod labels;
 mod loops;
 mod noted;

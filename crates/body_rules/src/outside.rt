@@ -62,8 +62,7 @@ pub enum BlockPart {
 
 /// What the names in a body mean, beside what they mean in expressions.
 pub trait Bodies: Meaning {
-    ghost use Rattle.std.specs.Prelude.{slice_get};
-    ghost use Rattle.std.specs.Option.{option_copied};
+    ghost use Rattle.std.specs.Prelude.{length, option_map, slice_get};
     ghost use Rattle.body_rules.specs.Surroundings.{Surroundings};
 
     ghost around: { Self → Surroundings };
@@ -115,9 +114,13 @@ pub trait Bodies: Meaning {
     fn block_part(&self, shape: ShapeNo, name: &[u8]) -> BlockPart
         ensures { result ≡ (around self.now).block_part shape name.now };
 
+    /// How many VAR_IN_OUT a block has.
+    fn in_out_count(&self, shape: ShapeNo) -> usize
+        ensures { result ≡ length ((around self.now).in_outs shape) };
+
     /// The name of a block's VAR_IN_OUT, by its place among all of them; none past the last one.
     fn in_out(&self, shape: ShapeNo, at: usize) -> Option<&[u8]>
-        ensures { option_copied result ≡ slice_get ((around self.now).in_outs shape) at };
+        ensures { option_map (λ s. s.now) result ≡ slice_get ((around self.now).in_outs shape) at };
 
     /// Whether a name is that of a step of the unit's chart.
     fn has_step(&self, name: &[u8]) -> bool
