@@ -1,11 +1,12 @@
 // Calls of instances.
 
-ghost use Rattle.std.specs.Prelude.{◌≡◌, ◌&&◌};
+ghost use Rattle.std.specs.Prelude.{◌≡◌, ◌&&◌, slice_get};
 ghost use Rattle.link_faults.specs.First.{after};
 ghost use Rattle.body_rules.specs.Surroundings.{here};
 ghost use Rattle.body_rules.specs.Calls.{Argues};
 ghost use Rattle.body_rules.specs.Calls as spec;
 ghost use Rattle.body_rules.specs.steps.Around.{around};
+ghost use Rattle.body_rules.specs.steps.Missing as steps;
 
 use crate::loops::Loops;
 use crate::noted::{anywhere, expression, note};
@@ -57,6 +58,22 @@ fn is_given_twice(arguments: &[StmtArgument]) -> bool
     false
 }
 
+/// Whether the VAR_IN_OUT at a place is given by no argument.
+fn is_missing<B: Bodies>(
+    outside: &B,
+    shape: ShapeNo,
+    arguments: &[StmtArgument],
+    at: usize,
+) -> bool
+    ensures { result ≡ steps.is_missing arguments.now (slice_get ((B.around outside.now).in_outs
+        shape) at) }
+{
+    match outside.in_out(shape, at) {
+        None => false,
+        Some(name) => !is_given(arguments, name),
+    }
+}
+
 /// Whether a VAR_IN_OUT of the block is given by no argument.
 fn lacks_in_out<B: Bodies>(
     outside: &B,
@@ -68,13 +85,8 @@ fn lacks_in_out<B: Bodies>(
         (B.around outside.now) file) shape arguments.now }
 {
     for i in 0..outside.in_out_count(shape) {
-        match outside.in_out(shape, i) {
-            None => (),
-            Some(name) => {
-                if !is_given(arguments, name) {
-                    return true;
-                }
-            },
+        if is_missing(outside, shape, arguments, i) {
+            return true;
         }
     }
     false
