@@ -6,3 +6,4 @@ pub mod Targets
 pub mod Labels
 pub mod Counters
 pub mod Calls
+pub mod Statements

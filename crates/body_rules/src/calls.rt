@@ -59,12 +59,7 @@ fn is_given_twice(arguments: &[StmtArgument]) -> bool
 }
 
 /// Whether the VAR_IN_OUT at a place is given by no argument.
-fn is_missing<B: Bodies>(
-    outside: &B,
-    shape: ShapeNo,
-    arguments: &[StmtArgument],
-    at: usize,
-) -> bool
+fn is_missing<B: Bodies>(outside: &B, shape: ShapeNo, arguments: &[StmtArgument], at: usize) -> bool
     ensures { result ≡ steps.is_missing arguments.now (slice_get ((B.around outside.now).in_outs
         shape) at) }
 {
@@ -163,13 +158,7 @@ fn whole_judged<B: Bodies>(
 }
 
 #[tactic(auto, using(crate::proofs::Told::followed_some, crate::proofs::Told::followed_none))]
-fn whole_input<B: Bodies>(
-    outside: &B,
-    file: u16,
-    faults: &mut Faults,
-    node: Node,
-    e: &Expr,
-)
+fn whole_input<B: Bodies>(outside: &B, file: u16, faults: &mut Faults, node: Node, e: &Expr)
     ensures { faults.new ≡ after faults.old (spec.whole_input (here (B.names outside.now)
         (B.parts outside.now) (B.around outside.now) file) node e.now) }
 {
@@ -343,12 +332,7 @@ fn is_same_type<B: Bodies>(outside: &B, file: u16, a: ExactType, b: ExactType) -
     }
 }
 
-fn is_exactly<B: Bodies>(
-    outside: &B,
-    file: u16,
-    ty: Option<ExactType>,
-    wanted: ExactType,
-) -> bool
+fn is_exactly<B: Bodies>(outside: &B, file: u16, ty: Option<ExactType>, wanted: ExactType) -> bool
     ensures { result ≡ spec.is_exactly (here (B.names outside.now) (B.parts outside.now)
         (B.around outside.now) file) ty wanted }
 {
@@ -380,12 +364,7 @@ fn has_index(path: &Path) -> bool
     false
 }
 
-fn is_wanted<B: Bodies>(
-    outside: &B,
-    file: u16,
-    path: &Path,
-    wanted: Option<ExactType>,
-) -> bool
+fn is_wanted<B: Bodies>(outside: &B, file: u16, path: &Path, wanted: Option<ExactType>) -> bool
     ensures { result ≡ spec.is_wanted (here (B.names outside.now) (B.parts outside.now)
         (B.around outside.now) file) path.now wanted }
 {
@@ -564,7 +543,13 @@ fn enable<B: Bodies>(
         (B.around outside.now) file) (around loops.now) argument.now) faults.old faults.new
         result }
 {
-    note(outside, file, faults, name_of(argument).node, LinkCode::OutOfProfile);
+    note(
+        outside,
+        file,
+        faults,
+        name_of(argument).node,
+        LinkCode::OutOfProfile,
+    );
     alone(outside, file, faults, loops, argument);
     true
 }
@@ -635,12 +620,7 @@ fn all_argued<B: Bodies>(
 
 // ---- calls
 
-fn fits_names<B: Bodies>(
-    outside: &B,
-    file: u16,
-    shape: ShapeNo,
-    arguments: &[StmtArgument],
-) -> bool
+fn fits_names<B: Bodies>(outside: &B, file: u16, shape: ShapeNo, arguments: &[StmtArgument]) -> bool
     ensures { result ≡ spec.fits_names (here (B.names outside.now) (B.parts outside.now)
         (B.around outside.now) file) shape arguments.now }
 {
@@ -725,10 +705,26 @@ pub(crate) fn call<B: Bodies>(
 {
     match outside.called(name.name.bytes()) {
         Called::NoInstance => {
-            uncalled(outside, file, faults, loops, node, LinkCode::WrongCall, arguments)
+            uncalled(
+                outside,
+                file,
+                faults,
+                loops,
+                node,
+                LinkCode::WrongCall,
+                arguments,
+            )
         },
         Called::Function => {
-            uncalled(outside, file, faults, loops, node, LinkCode::OutOfProfile, arguments)
+            uncalled(
+                outside,
+                file,
+                faults,
+                loops,
+                node,
+                LinkCode::OutOfProfile,
+                arguments,
+            )
         },
         Called::Faulty => all_alone(outside, file, faults, loops, arguments),
         Called::Instance(shape) => {

@@ -98,7 +98,12 @@ fn nonzero<B: Bodies>(
         Some(number)
     } else {
         let standing = anywhere(file);
-        wrong(faults, standing, node_of(outside, standing, e), LinkCode::BadBound)
+        wrong(
+            faults,
+            standing,
+            node_of(outside, standing, e),
+            LinkCode::BadBound,
+        )
     }
 }
 
@@ -139,13 +144,7 @@ fn step<B: Bodies>(
 }
 
 #[tactic(auto, using(crate::proofs::Told::after_append))]
-fn counted<B: Bodies>(
-    outside: &B,
-    file: u16,
-    faults: &mut Faults,
-    counter: &Counter,
-    place: Place,
-)
+fn counted<B: Bodies>(outside: &B, file: u16, faults: &mut Faults, counter: &Counter, place: Place)
     ensures { faults.new ≡ after faults.old (spec.counted (here (B.names outside.now)
         (B.parts outside.now) (B.around outside.now) file) counter.now place) }
 {

@@ -41,7 +41,12 @@ fn selected_shape<B: Bodies>(
         Some(Selector::Enumeration(shape))
     } else {
         let standing = anywhere(file);
-        wrong(faults, standing, node_of(outside, standing, e), LinkCode::WrongType)
+        wrong(
+            faults,
+            standing,
+            node_of(outside, standing, e),
+            LinkCode::WrongType,
+        )
     }
 }
 
@@ -60,7 +65,12 @@ fn selected_type<B: Bodies>(
         ExprType::Other(shape) => selected_shape(outside, file, faults, e, shape),
         ExprType::Loose => {
             let standing = anywhere(file);
-            wrong(faults, standing, node_of(outside, standing, e), LinkCode::WrongType)
+            wrong(
+                faults,
+                standing,
+                node_of(outside, standing, e),
+                LinkCode::WrongType,
+            )
         },
     }
 }
@@ -278,7 +288,14 @@ fn point_number<B: Bodies>(
             typed_label(outside, file, faults, selector, *node, text.bytes())
         },
         Point::Name(name) => {
-            name_label(outside, file, faults, selector, name.node, name.name.bytes())
+            name_label(
+                outside,
+                file,
+                faults,
+                selector,
+                name.node,
+                name.name.bytes(),
+            )
         },
         Point::Value(node, name, value) => {
             value_label(outside, file, faults, selector, *node, name, value)
@@ -358,13 +375,7 @@ fn range<B: Bodies>(
     }
 }
 
-fn label<B: Bodies>(
-    outside: &B,
-    file: u16,
-    faults: &mut Faults,
-    selector: Selector,
-    label: &Label,
-)
+fn label<B: Bodies>(outside: &B, file: u16, faults: &mut Faults, selector: Selector, label: &Label)
     ensures { faults.new ≡ after faults.old (spec.label (here (B.names outside.now)
         (B.parts outside.now) (B.around outside.now) file) selector label.now) }
 {

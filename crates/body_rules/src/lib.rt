@@ -8,6 +8,7 @@ mod loops;
 mod noted;
 mod outside;
 mod rules;
+mod statements;
 mod targets;
 
 pub use outside::{BlockPart, Bodies, Called, CounterVariable, ExactType, Scalar};

@@ -7,6 +7,7 @@ ghost use Rattle.body_rules.specs.steps.Around.{around};
 use scope_names::is_same_name;
 
 /// The loops around a statement, from the innermost out.
+#[derive(Drop)]
 pub(crate) enum Loops<'a> {
     Outermost,
     /// A loop that counts no variable.

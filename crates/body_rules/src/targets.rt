@@ -8,8 +8,8 @@ ghost use Rattle.body_rules.specs.Targets as spec;
 ghost use Rattle.body_rules.specs.steps.Around.{around};
 
 use crate::loops::{Loops, counts};
-use crate::outside::{BlockPart, Bodies, ExactType};
 use crate::noted::{anywhere, expression, note, wrong};
+use crate::outside::{BlockPart, Bodies, ExactType};
 use expression_types::{ExprType, Judged, Meaning, Names, Place, ShapeNo, judge_path};
 use link_faults::{Faults, LinkCode};
 use st_tree::{Expr, Identifier, Node, Part, Path, Root};
@@ -129,12 +129,7 @@ fn is_output(part: BlockPart) -> bool
     }
 }
 
-fn is_output_field<B: Bodies>(
-    outside: &B,
-    file: u16,
-    name: &Identifier,
-    before: ExactType,
-) -> bool
+fn is_output_field<B: Bodies>(outside: &B, file: u16, name: &Identifier, before: ExactType) -> bool
     ensures { result ≡ spec.is_output_field (here (B.names outside.now) (B.parts outside.now)
         (B.around outside.now) file) name.now before }
 {
@@ -145,12 +140,7 @@ fn is_output_field<B: Bodies>(
 }
 
 /// Whether a part is an output of the instance that stands before it.
-fn is_output_part<B: Bodies>(
-    outside: &B,
-    file: u16,
-    part: &Part,
-    before: Option<ExactType>,
-) -> bool
+fn is_output_part<B: Bodies>(outside: &B, file: u16, part: &Part, before: Option<ExactType>) -> bool
     ensures { result ≡ spec.is_output_part (here (B.names outside.now) (B.parts outside.now)
         (B.around outside.now) file) part.now before }
 {
@@ -163,12 +153,7 @@ fn is_output_part<B: Bodies>(
     }
 }
 
-fn has_output<B: Bodies>(
-    outside: &B,
-    file: u16,
-    parts: &[Part],
-    before: Option<ExactType>,
-) -> bool
+fn has_output<B: Bodies>(outside: &B, file: u16, parts: &[Part], before: Option<ExactType>) -> bool
     ensures { result ≡ spec.has_output (here (B.names outside.now) (B.parts outside.now)
         (B.around outside.now) file) parts.now before }
 {
@@ -321,13 +306,7 @@ fn assigned<B: Bodies>(
     }
 }
 
-fn whole_target<B: Bodies>(
-    outside: &B,
-    file: u16,
-    faults: &mut Faults,
-    node: Node,
-    path: &Path,
-)
+fn whole_target<B: Bodies>(outside: &B, file: u16, faults: &mut Faults, node: Node, path: &Path)
     ensures { faults.new ≡ after faults.old (spec.whole_target (here (B.names outside.now)
         (B.parts outside.now) (B.around outside.now) file) node path.now) }
 {
