@@ -13,6 +13,12 @@ pub after_append : (old : Faults) (fs gs : List LinkFault)
     → after old (fs ++ gs) ≡ after (after old fs) gs
 after_append = told.after_append
 
+-- two lists, one after the other
+pub noted_both : (fs gs : List LinkFault) (old mid new : Faults)
+    → mid ≡ after old fs → new ≡ after mid gs → new ≡ after old (fs ++ gs)
+noted_both fs gs old mid new h k =
+    k ∙ ap (λ m. after m gs) h ∙ sym (told.after_append old fs gs)
+
 pub bind_some : {A B : Type 0} (x : Checked A) (k : A → Checked B) (old mid new : Faults) (a : A)
     (r : Option B) → Tells x old mid (Some a) → Tells (k a) mid new r → Tells (bind x k) old new r
 bind_some = told.bind_some

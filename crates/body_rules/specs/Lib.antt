@@ -7,3 +7,4 @@ pub mod Labels
 pub mod Counters
 pub mod Calls
 pub mod Statements
+pub mod Charts

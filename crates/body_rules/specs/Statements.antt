@@ -61,12 +61,9 @@ repeated h body e loops = each body loops ++ condition h e
 abbrev pub counting : Here → Counter → List Told → List Loop → List LinkFault
 counting h c body loops = counter h loops c ++ each body (Counting c.variable.name ∷ loops)
 
--- the branches of a CASE, by the answer of its selector, and what follows ELSE
+-- the branches of a CASE by the answer of its selector, and what follows ELSE
 abbrev pub known_cases : List ToldCase → List Loop → Option Selector → List LinkFault
 known_cases cases loops s = each_case cases (known_selector s) loops
-
-abbrev pub cases_and_last : List ToldCase → List Told → List Loop → Option Selector → List LinkFault
-cases_and_last cases last loops s = known_cases cases loops s ++ each last loops
 
 abbrev pub selection : Here → Expr → List ToldCase → List Loop → List LinkFault
 selection h e cases loops =
@@ -74,8 +71,7 @@ selection h e cases loops =
 
 abbrev pub selection_and_last : Here → Expr → List ToldCase → List Told → List Loop
     → List LinkFault
-selection_and_last h e cases last loops =
-    faults (selected h e) ++ cases_and_last cases last loops (answer (selected h e))
+selection_and_last h e cases last loops = selection h e cases loops ++ each last loops
 
 abbrev pub stmt_in : Here → Stmt-F Told Told ToldCase → Told
 stmt_in h (Stmt-F.Assign node path e) loops = assignment h loops node path e

@@ -2,6 +2,7 @@
 #![tactic(auto)]
 
 mod calls;
+mod charts;
 mod counters;
 mod labels;
 mod loops;
@@ -11,4 +12,5 @@ mod rules;
 mod statements;
 mod targets;
 
+pub use charts::body;
 pub use outside::{BlockPart, Bodies, Called, CounterVariable, ExactType, Scalar};

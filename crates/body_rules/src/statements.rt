@@ -210,25 +210,6 @@ fn branches<B: Bodies>(
 
 #[cycle(statement)]
 #[tactic(auto, using(crate::proofs::Told::after_append))]
-fn branches_and_last<B: Bodies>(
-    outside: &B,
-    file: u16,
-    faults: &mut Faults,
-    list: &[Branch],
-    last: &[Stmt],
-    loops: &Loops<'_>,
-)
-    ensures { faults.new ≡ after faults.old (spec.branches_and_last (map (spec.branch (here (B.names outside.now)
-        (B.parts outside.now) (B.around outside.now) file))
-        list.now) (map (spec.stmt (here (B.names outside.now)
-        (B.parts outside.now) (B.around outside.now) file)) last.now) (around loops.now)) }
-{
-    branches(outside, file, faults, list, loops);
-    statements(outside, file, faults, last, loops);
-}
-
-#[cycle(statement)]
-#[tactic(auto, using(crate::proofs::Told::after_append))]
 fn labelled<B: Bodies>(
     outside: &B,
     file: u16,
@@ -306,27 +287,7 @@ fn known_cases<B: Bodies>(
     cases(outside, file, faults, known_selector(selector), list, loops);
 }
 
-#[cycle(statement)]
-#[tactic(auto, using(crate::proofs::Told::after_append))]
-fn cases_and_last<B: Bodies>(
-    outside: &B,
-    file: u16,
-    faults: &mut Faults,
-    selector: Option<Selector>,
-    list: &[Case],
-    last: &[Stmt],
-    loops: &Loops<'_>,
-)
-    ensures { faults.new ≡ after faults.old (spec.cases_and_last (map (spec.case (here (B.names outside.now)
-        (B.parts outside.now) (B.around outside.now) file)) list.now)
-        (map (spec.stmt (here (B.names outside.now)
-        (B.parts outside.now) (B.around outside.now) file)) last.now) (around loops.now) selector) }
-{
-    known_cases(outside, file, faults, selector, list, loops);
-    statements(outside, file, faults, last, loops);
-}
-
-/// CASE without ELSE.
+/// CASE, up to ELSE.
 #[cycle(statement)]
 fn selection<B: Bodies>(
     outside: &B,
@@ -343,27 +304,6 @@ fn selection<B: Bodies>(
 {
     let selector = selected(outside, file, faults, e);
     known_cases(outside, file, faults, selector, list, loops);
-}
-
-/// CASE with ELSE.
-#[cycle(statement)]
-fn selection_and_last<B: Bodies>(
-    outside: &B,
-    file: u16,
-    faults: &mut Faults,
-    list: &[Case],
-    last: &[Stmt],
-    e: &Expr,
-    loops: &Loops<'_>,
-)
-    ensures { faults.new ≡ after faults.old (spec.selection_and_last (here (B.names outside.now)
-        (B.parts outside.now) (B.around outside.now) file) e.now (map (spec.case
-        (here (B.names outside.now)
-        (B.parts outside.now) (B.around outside.now) file)) list.now) (map (spec.stmt (here (B.names outside.now)
-        (B.parts outside.now) (B.around outside.now) file)) last.now) (around loops.now)) }
-{
-    let selector = selected(outside, file, faults, e);
-    cases_and_last(outside, file, faults, selector, list, last, loops);
 }
 
 /// Notes the faults of a statement.
@@ -394,21 +334,15 @@ fn statement<B: Bodies>(outside: &B, file: u16, faults: &mut Faults, s: &Stmt, l
         Stmt::If(_, list, last) => match last {
             None => branches(outside, file, faults, list.as_slice(), loops),
             Some(last) => {
-                branches_and_last(
-                    outside,
-                    file,
-                    faults,
-                    list.as_slice(),
-                    last.as_slice(),
-                    loops,
-                )
+                branches(outside, file, faults, list.as_slice(), loops);
+                statements(outside, file, faults, last.as_slice(), loops);
             },
         },
-        Stmt::Case(_, e, list, last) => match last {
+        Stmt::Case(_, e, list, others) => match others {
             None => selection(outside, file, faults, list.as_slice(), e.get(), loops),
-            Some(last) => {
-                let last = last.as_slice();
-                selection_and_last(outside, file, faults, list.as_slice(), last, e.get(), loops)
+            Some(others) => {
+                selection(outside, file, faults, list.as_slice(), e.get(), loops);
+                statements(outside, file, faults, others.as_slice(), loops);
             },
         },
         Stmt::For(_, c, body) => {

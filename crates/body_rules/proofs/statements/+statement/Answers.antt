@@ -1,9 +1,10 @@
 use Rattle.std.proofs.Common.{refl, map}
 use Rattle.body_rules.specs.Surroundings.{here}
-use Rattle.body_rules.specs.Statements.{each, each_case, known_cases, cases_and_last, stmt, branch, case}
+use Rattle.body_rules.specs.Statements.{each, each_case, known_cases, stmt, branch, case}
 use Rattle.body_rules.specs.steps.Around.{around}
 use Rattle.body_rules.specs.Labels.{selected}
 use Rattle.body_rules.proofs.Told.{answered}
+use Rattle.body_rules.proofs.Rolled.{if_told, case_told}
 use Rattle.body_rules.proofs.Turns.{turn}
 use Rattle.body_rules.proofs.statements.+statement.Goals as goal
 
@@ -42,10 +43,19 @@ selection-returns g t c =
     (known_cases (map (case h) c.args.list.now) (around c.args.loops.now)) _ _ _ _
     c.selected-selector.ensures c.known_cases.ensures
 
-pub selection_and_last-returns : goal.selection_and_last-returns
-selection_and_last-returns g t c =
+pub statement-returns-in-Some : goal.statement-returns-in-Some
+statement-returns-in-Some g t c =
     let o = c.args.outside.now in
     let h = here (g.B.Names.names o) (g.B.Meaning.parts o) (g.B.Bodies.around o) c.args.file in
-    answered (selected h c.args.e.now)
-    (cases_and_last (map (case h) c.args.list.now) (map (stmt h) c.args.last.now)
-    (around c.args.loops.now)) _ _ _ _ c.selected-selector.ensures c.cases_and_last.ensures
+    if_told h c.args.s.now _ _ _ _ _ _ (around c.args.loops.now) _ _ _ c.in-If.is c.in-Some.is
+    c.as_slice-in-Some.ensures c.as_slice-in-Some-2.ensures c.branches-in-Some.ensures
+    c.statements.ensures
+
+pub statement-returns-in-Some-others : goal.statement-returns-in-Some-others
+statement-returns-in-Some-others g t c =
+    let o = c.args.outside.now in
+    let h = here (g.B.Names.names o) (g.B.Meaning.parts o) (g.B.Bodies.around o) c.args.file in
+    case_told h c.args.s.now _ _ _ _ _ _ _ _ (around c.args.loops.now) _ _ _ c.in-Case.is
+    c.in-Some-others.is c.get-in-Some-others.ensures c.as_slice-in-Some-others.ensures
+    c.as_slice-in-Some-others-2.ensures c.selection-in-Some-others.ensures
+    c.statements-in-Some-others.ensures
