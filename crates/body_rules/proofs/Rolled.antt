@@ -1,6 +1,6 @@
 -- What is told of statements with ELSE, by what is told of their parts.
 use denote.Hole.Carrier
-use Rattle.std.proofs.Common.{◌≡◌, List, Option, Some, map, sym, ap, ◌∙◌, subst}
+use Rattle.std.proofs.Common.{◌≡◌, List, Option, Some, map, sym, ap, ◌∙◌}
 use Rattle.st_tree.specs.declared.node.Node.{Node}
 use Rattle.st_tree.specs.declared.expression.Expr.{Expr}
 use Rattle.st_tree.specs.declared.statement.Stmt.{Stmt, roll-Stmt, fold-roll-Stmt}
@@ -9,7 +9,6 @@ use Rattle.st_tree.specs.declared.statement.Stmt.TheOpen.{Stmt-F}
 use Rattle.st_tree.specs.declared.statement.Branch.{Branch}
 use Rattle.st_tree.specs.declared.statement.Case.{Case}
 use Rattle.link_faults.specs.First.{after}
-use Rattle.link_faults.specs.declared.fault.LinkFault.{LinkFault}
 use Rattle.link_faults.specs.declared.fault.Faults.{Faults}
 use Rattle.body_rules.specs.Loops.{Loop}
 use Rattle.body_rules.specs.Surroundings.{Here}

@@ -1,5 +1,5 @@
 -- What is told of parts that stand together: the lemmas of faults, under names of this crate.
-use Rattle.std.proofs.Common.{◌≡◌, List, [], ◌∷◌, ◌++◌, Option, Some, None, sym, ap, ◌∙◌, subst}
+use Rattle.std.proofs.Common.{◌≡◌, List, ◌++◌, Option, Some, None, sym, ap, ◌∙◌, subst}
 use Rattle.std.proofs.lemmas.Option.{none-some, same_Some}
 use Rattle.link_faults.specs.First.{after}
 use Rattle.link_faults.specs.Checked.{Checked, Good, Bad, faults, answer, bind, both, Tells}

@@ -1,5 +1,5 @@
 -- Faults that are noted one after the other: the turns of loops.
-use Rattle.std.proofs.Common.{◌≡◌, refl, ℕ, suc, ◌+◌, ◌<◌, Bool, true, false, ◌&&◌, List, [], ◌∷◌, ◌++◌, length, get_or, drop, sym, ap, ◌∙◌, add-one, drop-cons}
+use Rattle.std.proofs.Common.{◌≡◌, refl, ℕ, suc, ◌+◌, ◌<◌, Bool, true, false, ◌&&◌, List, ◌∷◌, ◌++◌, length, get_or, drop, sym, ap, ◌∙◌, add-one, drop-cons}
 use Rattle.std.specs.List.{list_all}
 use Rattle.link_faults.specs.First.{after}
 use Rattle.link_faults.specs.declared.fault.LinkFault.{LinkFault}

@@ -1,6 +1,6 @@
 -- FOR: its variable, and the values from which and to which it counts, and by which. Source: IEC 61131-3,
 -- iteration statements; which faults stand is this profile's.
-use Rattle.std.specs.Prelude.{ℕ, ℤ, pos, Bool, true, false, not, if◌then◌else◌, List, [], ◌∷◌, ◌++◌, Option, Some, None}
+use Rattle.std.specs.Prelude.{pos, Bool, not, if◌then◌else◌, List, [], ◌++◌, Option, Some, None}
 use Rattle.std.specs.Ordering.{int_eq}
 use Rattle.iec_tables.specs.declared.elem.Elem.{Elem}
 use Rattle.st_tree.specs.declared.code.Number.{Number}

@@ -1,6 +1,6 @@
 -- CASE: the selector is elementary or an enumeration, and each label is a constant of its type. Source:
 -- IEC 61131-3, selection statements; which faults stand is this profile's. Labels may overlap.
-use Rattle.std.specs.Prelude.{ℕ, ℤ, int_le, Bool, true, false, if◌then◌else◌, List, flat_map, Option, Some, None}
+use Rattle.std.specs.Prelude.{ℕ, int_le, Bool, true, false, if◌then◌else◌, List, flat_map, Option, Some, None}
 use Rattle.iec_tables.specs.declared.elem.Elem.{Elem}
 use Rattle.st_tree.specs.declared.node.Node.{Node}
 use Rattle.st_tree.specs.declared.code.Number.{Number}

@@ -1,6 +1,6 @@
 -- The loops around a statement. Source: IEC 61131-3, iteration statements: EXIT and CONTINUE stand in a
 -- loop, and a FOR's variable isn't written to in its loop.
-use Rattle.std.specs.Prelude.{ℕ, Bool, true, false, ◌||◌, bytes_eq, List, [], ◌∷◌}
+use Rattle.std.specs.Prelude.{ℕ, Bool, true, false, bytes_eq, List, [], ◌∷◌}
 use Rattle.std.specs.List.{list_any}
 use Rattle.iec_tables.specs.Words.{raised_all}
 

@@ -44,12 +44,7 @@ fn is_qualifier(name: &[u8]) -> bool
         || (is_same_name(name, b"S") || (is_same_name(name, b"R") || is_same_name(name, b"P")))
 }
 
-fn qualified<B: Bodies>(
-    outside: &B,
-    file: u16,
-    faults: &mut Faults,
-    qualifier: &Option<Identifier>,
-)
+fn qualified<B: Bodies>(outside: &B, file: u16, faults: &mut Faults, qualifier: &Option<Identifier>)
     ensures { faults.new ≡ after faults.old (spec.qualified (here (B.names outside.now) (B.parts outside.now)
         (B.around outside.now) file) qualifier.now) }
 {
@@ -57,7 +52,13 @@ fn qualified<B: Bodies>(
         None => (),
         Some(qualifier) => {
             if !is_qualifier(qualifier.name.bytes()) {
-                note(outside, file, faults, qualifier.node, LinkCode::OutOfProfile);
+                note(
+                    outside,
+                    file,
+                    faults,
+                    qualifier.node,
+                    LinkCode::OutOfProfile,
+                );
             }
         },
     }

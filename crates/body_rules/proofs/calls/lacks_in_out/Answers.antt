@@ -1,4 +1,4 @@
-use Rattle.std.proofs.Common.{ap, sym, subst, ◌∙◌, ◌<◌, ℕ}
+use Rattle.std.proofs.Common.{sym, subst, ◌∙◌, ◌<◌, ℕ}
 use Rattle.body_rules.proofs.Missing.{missing_stop, missing_next}
 use Rattle.body_rules.proofs.calls.lacks_in_out.Goals as goal
 
