@@ -1,6 +1,6 @@
 -- CASE: the selector is elementary or an enumeration, and each label is a constant of its type. Source:
 -- IEC 61131-3, selection statements; which faults stand is this profile's. Labels may overlap.
-use Rattle.std.specs.Prelude.{ℕ, int_le, Bool, true, false, if◌then◌else◌, List, flat_map, Option, Some, None}
+use Rattle.std.specs.Prelude.{ℕ, int_le, Bool, true, false, List, flat_map, Option, Some, None}
 use Rattle.iec_tables.specs.declared.elem.Elem.{Elem}
 use Rattle.st_tree.specs.declared.node.Node.{Node}
 use Rattle.st_tree.specs.declared.code.Number.{Number}
@@ -59,11 +59,14 @@ fits_label h selector.Unknown t = true
 fits_label h (selector.Elem s) t = fits_elem s t
 fits_label h (selector.Enumeration shape) t = fits_enumeration h shape t
 
--- the type comes before the rule that a label is constant, which stands at the same node
+abbrev pub fitting_type : Here → Selector → Node → ExprType → Number → Checked Number
+fitting_type h s node t z =
+    provided (fits_label h s t) z (site_of (constant h.file) node) code.WrongType
+
+-- a label that isn't constant holds a fault, and its type breaks no rule
 abbrev pub fitting : Here → Selector → Node → Judged → Checked Number
 fitting h s node j =
-    if fits_label h s j.ty then known_number (constant h.file) node j.number
-    else wrong_at (constant h.file) node code.WrongType
+    bind (known_number (constant h.file) node j.number) (fitting_type h s node j.ty)
 
 abbrev pub fitted : Here → Selector → Node → Checked Judged → Checked Number
 fitted h s node x = bind x (fitting h s node)

@@ -135,6 +135,27 @@ fn fits_label<B: Bodies>(outside: &B, file: u16, selector: Selector, ty: ExprTyp
     }
 }
 
+fn fitting_type<B: Bodies>(
+    outside: &B,
+    file: u16,
+    faults: &mut Faults,
+    selector: Selector,
+    node: Node,
+    ty: ExprType,
+    number: Number,
+) -> Option<Number>
+    ensures { Tells (spec.fitting_type (here (B.names outside.now) (B.parts outside.now)
+        (B.around outside.now) file) selector node ty number) faults.old faults.new result }
+{
+    if fits_label(outside, file, selector, ty) {
+        Some(number)
+    } else {
+        wrong(faults, constant(file), node, LinkCode::WrongType)
+    }
+}
+
+/// The number of a label that is constant and of the selector's type.
+#[tactic(auto, using(crate::proofs::Told::bind_some, crate::proofs::Told::bind_none))]
 fn fitting<B: Bodies>(
     outside: &B,
     file: u16,
@@ -146,10 +167,9 @@ fn fitting<B: Bodies>(
     ensures { Tells (spec.fitting (here (B.names outside.now) (B.parts outside.now)
         (B.around outside.now) file) selector node judged) faults.old faults.new result }
 {
-    if fits_label(outside, file, selector, judged.ty) {
-        known_number(faults, constant(file), node, judged.number)
-    } else {
-        wrong(faults, constant(file), node, LinkCode::WrongType)
+    match known_number(faults, constant(file), node, judged.number) {
+        None => None,
+        Some(number) => fitting_type(outside, file, faults, selector, node, judged.ty, number),
     }
 }
 
