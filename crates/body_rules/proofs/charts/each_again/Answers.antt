@@ -1,0 +1,14 @@
+use Rattle.std.proofs.Common.{refl}
+use Rattle.std.specs.Prelude.{flat_map}
+use Rattle.body_rules.specs.Surroundings.{here}
+use Rattle.body_rules.specs.Charts.{again}
+use Rattle.body_rules.proofs.Turns.{turn}
+use Rattle.body_rules.proofs.charts.each_again.Goals as goal
+
+pub loop-each-preserved : goal.loop-each-preserved
+loop-each-preserved g c =
+    let o = c.args.outside.now in
+    let h = here (g.B.Names.names o) (g.B.Meaning.parts o) (g.B.Bodies.around o) c.args.file in
+    turn (flat_map (again h c.args.name.now)) (again h c.args.name.now) (λ e es. refl) c.args.later.now
+    c.loop-each.each-index c.each-item.result _ _ _ c.loop-each-test.true c.each-item.is
+    c.loop-each.invariant c.again.ensures
