@@ -8,14 +8,14 @@ use scope_names::is_same_name;
 
 /// Whether two names are one.
 #[tactic(auto, using(crate::proofs::Same::decided))]
-pub(crate) fn is_one_name(a: &[u8], b: &[u8]) -> bool
+pub fn is_one_name(a: &[u8], b: &[u8]) -> bool
     ensures { result ≡ bytes_eq (raised_all a.now) (raised_all b.now) }
 {
     is_same_name(a, b)
 }
 
 /// Whether a text is a name with its letters raised.
-pub(crate) fn is_raised(text: &[u8], name: &[u8]) -> bool
+pub fn is_raised(text: &[u8], name: &[u8]) -> bool
     ensures { result ≡ bytes_eq text.now (raised_all name.now) }
 {
     match text {

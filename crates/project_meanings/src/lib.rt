@@ -15,6 +15,7 @@ mod standing;
 mod table;
 mod whole;
 
+pub use letters::{is_one_name, is_raised};
 pub use rows::{InputRow, Signature};
 pub use table::Signatures;
 pub use whole::Whole;
